@@ -13,7 +13,7 @@ passed=0 failed=0
 FAILS='' # has the stand-in for rt prove nothing
 export FAILS
 tree="$room/a clone"
-text=crates/uz_text/src/lib.rt
+text=crates/uz_hex/src/lib.rt
 without_rt=$room/tools # all commands that the scripts call, and no rt
 with_rt=$room/kit:$without_rt
 
@@ -21,12 +21,12 @@ with_rt=$room/kit:$without_rt
 make_tree() {
     mkdir -p "$tree/release/x86_64-linux" "$without_rt" "$room/kit" || return
     cp -R "$top/uzebox" "$top/prove" "$top/tools" "$top/HANDLES" "$top/.ci" "$tree" || return
-    for crate in uz_text uz_core uzebox core_cases; do
+    for crate in uz_hex uz_core uzebox core_cases; do
         mkdir -p "$tree/crates/$crate/src" "$tree/crates/$crate/proofs"
         echo "fn of_$crate() {}" >"$tree/crates/$crate/src/lib.rt"
         echo "module $crate" >"$tree/crates/$crate/proofs/Lib.antt"
     done
-    printf '%s\n' '# crates' uz_text: 'uz_core: uz_text # a machine' 'core_cases: uz_core' 'uzebox: uz_core thiserror' \
+    printf '%s\n' '# crates' uz_hex: 'uz_core: uz_hex # a machine' 'core_cases: uz_core' 'uzebox: uz_core thiserror' \
         >"$tree/crates.txt"
     cp -Rp "$tree" "$room/before"
     for command in awk cat chmod cmp cp cut dirname env find flock grep install ls mkdir mktemp mv readlink rm sed sh \
@@ -47,7 +47,7 @@ make_rt() {
 [ "$*" = ci ] || { echo 'kit 1'; exit; }
 echo "$(cat "$0.runs" 2>/dev/null)x" >"$0.runs"
 sleep "${SECONDS_OF_RT:-0}"
-[ -z "$FAILS" ] || { echo 'rt: uz_text NOT PROVED'; echo '0 passed, 1 failed'; exit 2; }
+[ -z "$FAILS" ] || { echo 'rt: uz_hex NOT PROVED'; echo '0 passed, 1 failed'; exit 2; }
 sed -n 's/^\([a-z0-9_]*\):.*/rt: \1 proved/p' crates.txt
 mkdir -p crates/uzebox/out
 printf '#!/bin/sh\necho own "$@"\nexit 4\n' >crates/uzebox/out/uzebox
@@ -104,9 +104,9 @@ runs_release 'the byte taken back, with the file time of before'
 printf 'x' >>$text && touch -r "$room/before/$text" $text
 builds_none 'a changed file with an old time'
 put_back $text
-: >crates/uz_text/src/more.rt
+: >crates/uz_hex/src/more.rt
 builds_none 'a file more'
-rm crates/uz_text/src/more.rt
+rm crates/uz_hex/src/more.rt
 runs_release 'that file removed'
 mv crates/uz_core/proofs "$room/proofs"
 builds_none 'a folder less'

@@ -12,14 +12,14 @@ use Rattle.avr_text.specs.Names.{NameMap}
 use Rattle.avr_asm.specs.declared.directives.Directive.{Directive}
 use Rattle.avr_asm.specs.declared.directives.Directive.TheVariants as directive
 use Rattle.avr_asm.specs.declared.errors.AsmError.{AsmError}
-use Rattle.avr_operands.specs.declared.errors.AsmWhy.TheVariants as why
+use Rattle.avr_text.specs.declared.errors.AsmWhy.TheVariants as why
 use Rattle.avr_asm.specs.declared.lines.Action.{Action}
 use Rattle.avr_asm.specs.declared.lines.Action.TheVariants as action
 use Rattle.avr_asm.specs.declared.output.Placed.{Placed}
 use Rattle.avr_asm.specs.Emission.{Flash, put, byte_data, word_data, instruction_bytes}
-use Rattle.avr_operands.specs.Faults.{OrFault, ◌>>=◌}
+use Rattle.avr_text.specs.Faults.{OrFault, ◌>>=◌}
 use Rattle.avr_asm.specs.Hints.{hint_of, mapped}
-use Rattle.avr_operands.specs.Instructions.{instruction_of}
+use Rattle.avr_text.specs.Instructions.{instruction_of}
 use Rattle.avr_asm.specs.Layout.{arguments_in, is_instruction, is_instruction_in, is_instruction_line}
 use Rattle.avr_asm.specs.Lines.{content_of, body_of, action_of, parts_of}
 use Rattle.avr_asm.specs.Assembly.{Output, with_line, following, at_line, output_from}

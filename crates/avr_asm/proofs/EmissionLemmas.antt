@@ -8,8 +8,8 @@ use Rattle.std.proofs.lemmas.List.{drop_all}
 use Rattle.std.proofs.lemmas.Bool.Decides.{nat_tests}
 use Rattle.avr_text.specs.declared.tokens.Token.{Token}
 use Rattle.avr_text.specs.Names.{NameMap}
-use Rattle.avr_operands.specs.declared.errors.AsmWhy.TheVariants.{Past, Overlap}
-use Rattle.avr_operands.specs.Faults.{OrFault}
+use Rattle.avr_text.specs.declared.errors.AsmWhy.TheVariants.{Past, Overlap}
+use Rattle.avr_text.specs.Faults.{OrFault}
 use Rattle.avr_asm.specs.Emission.{bytes_of_number, data_value, low_byte, with_number, data_from, put, Flash}
 
 part_there : (ls : List (Bor (List Token))) (i : ℕ) (d : Bor (List Token)) → i < length ls → get_or (map (λ l. l.now) ls) i

@@ -17,13 +17,13 @@ use Rattle.std.proofs.lemmas.Map.Views.{Contains-from_lookup}
 use Rattle.avr_text.specs.declared.tokens.Token.{Token}
 use Rattle.avr_text.specs.Names.{NameMap}
 use Rattle.avr_asm.specs.declared.errors.AsmError.{AsmError}
-use Rattle.avr_operands.specs.declared.errors.AsmWhy.TheVariants as why
+use Rattle.avr_text.specs.declared.errors.AsmWhy.TheVariants as why
 use Rattle.avr_asm.specs.declared.first_pass.Effect.{Effect}
 use Rattle.avr_asm.specs.declared.first_pass.Effect.TheVariants.{Nothing, Move, Define, Take, Wrong}
 use Rattle.avr_asm.specs.declared.layout.Place.{Place}
 use Rattle.avr_asm.specs.declared.output.Built.{Built}
 use Rattle.avr_asm.specs.Emission.{Flash, put}
-use Rattle.avr_operands.specs.Faults.{OrFault, ◌>>=◌}
+use Rattle.avr_text.specs.Faults.{OrFault, ◌>>=◌}
 use Rattle.avr_asm.specs.Hints.{mapped}
 use Rattle.avr_asm.specs.Layout.{is_reserved, defined, with_symbols, labelled, named, at_address, address_after, applied, arguments_in}
 use Rattle.avr_asm.specs.Layout.{effect_in}

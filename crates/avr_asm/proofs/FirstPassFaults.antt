@@ -14,10 +14,10 @@ use Rattle.avr_text.specs.Arithmetic as text
 use Rattle.avr_text.specs.Names.{NameMap}
 use Rattle.avr_text.specs.Reading.{is_mark_of, value_of}
 use Rattle.avr_text.specs.Tokens.{tokens_of}
-use Rattle.avr_operands.specs.declared.errors.AsmWhy.{AsmWhy}
-use Rattle.avr_operands.specs.declared.errors.AsmWhy.TheVariants as why
-use Rattle.avr_operands.specs.Faults.{OrFault, ◌>>=◌, number_of}
-use Rattle.avr_operands.specs.Operands.{expression, number, line_fault, within}
+use Rattle.avr_text.specs.declared.errors.AsmWhy.{AsmWhy}
+use Rattle.avr_text.specs.declared.errors.AsmWhy.TheVariants as why
+use Rattle.avr_text.specs.Faults.{OrFault, ◌>>=◌, number_of}
+use Rattle.avr_text.specs.Operands.{expression, number, line_fault, within}
 use Rattle.avr_asm.specs.declared.directives.Directive.TheVariants as directive
 use Rattle.avr_asm.specs.declared.first_pass.Effect.{Effect}
 use Rattle.avr_asm.specs.declared.first_pass.Effect.TheVariants.{Nothing, Move, Define, Take, Wrong}

@@ -7,9 +7,9 @@ use Rattle.std.specs.Ordering.{nat_cmp}
 use Rattle.std.specs.Cmp.Lexicographic.{slice_cmp}
 use Rattle.std.specs.FinMap.{from_entries}
 use Rattle.avr_text.specs.declared.tokens.Token.{Token}
-use Rattle.avr_operands.specs.declared.errors.AsmWhy.{AsmWhy}
-use Rattle.avr_operands.specs.declared.errors.AsmWhy.TheVariants as why
-use Rattle.avr_operands.specs.Faults.{OrFault, number_of}
+use Rattle.avr_text.specs.declared.errors.AsmWhy.{AsmWhy}
+use Rattle.avr_text.specs.declared.errors.AsmWhy.TheVariants as why
+use Rattle.avr_text.specs.Faults.{OrFault, number_of}
 use Rattle.avr_asm.specs.declared.errors.AsmError.{AsmError}
 use Rattle.avr_asm.specs.declared.first_pass.Effect.{Effect}
 use Rattle.avr_asm.specs.declared.first_pass.Effect.TheVariants.{Nothing, Move, Define, Take, Wrong}

@@ -3,9 +3,9 @@ use Rattle.std.proofs.Common.{◌≡◌, ℕ, Bool, List, [], ◌∷◌, Bor, le
 use Rattle.std.specs.Prelude.{Err, codes, if◌then◌else◌}
 use Rattle.avr_text.specs.declared.tokens.Token.{Token}
 use Rattle.avr_text.specs.Names.{NameMap}
-use Rattle.avr_operands.specs.declared.errors.AsmWhy.TheVariants.{Directive}
-use Rattle.avr_operands.specs.Faults.{OrFault}
-use Rattle.avr_operands.specs.Operands.{both}
+use Rattle.avr_text.specs.declared.errors.AsmWhy.TheVariants.{Directive}
+use Rattle.avr_text.specs.Faults.{OrFault}
+use Rattle.avr_text.specs.Operands.{both}
 use Rattle.avr_asm.specs.declared.output.Hint.{Hint}
 use Rattle.avr_asm.specs.declared.output.Hint.TheVariants as hint
 use Rattle.avr_asm.specs.Hints.{byte, bytes_at, fact_address, fact_at, fact_hint, half_hint, handler_cell_hint, lines_hint, mapped, part_at, place_of}

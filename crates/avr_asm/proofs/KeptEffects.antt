@@ -14,10 +14,10 @@ use Rattle.avr_asm.specs.declared.first_pass.Effect.{Effect}
 use Rattle.avr_asm.specs.declared.first_pass.Effect.TheVariants.{Wrong}
 use Rattle.avr_asm.specs.declared.lines.Action.{Action}
 use Rattle.avr_asm.specs.declared.lines.Action.TheVariants as action
-use Rattle.avr_operands.specs.Faults.{OrFault}
+use Rattle.avr_text.specs.Faults.{OrFault}
 use Rattle.avr_asm.specs.Layout.{moved, set, org_effect, equ_effect, directive_effect, effect_of, effect_in, arguments_in}
 use Rattle.avr_asm.specs.Lines.{is_name, body_of, action_of, parts_of}
-use Rattle.avr_operands.specs.Operands.{line_fault, expression, within, number}
+use Rattle.avr_text.specs.Operands.{line_fault, expression, within, number}
 use Rattle.avr_asm.proofs.OutcomeLemmas.{ok_same}
 
 abbrev pub ValuesStay : Type 0

@@ -7,19 +7,19 @@ use Rattle.std.proofs.lemmas.Bool.Decides.{nat_tests}
 use Rattle.avr_text.specs.declared.tokens.Token.{Token}
 use Rattle.avr_text.specs.Names.{NameMap}
 use Rattle.avr_asm.specs.declared.errors.AsmError.{AsmError}
-use Rattle.avr_operands.specs.declared.errors.AsmWhy.TheVariants as why
+use Rattle.avr_text.specs.declared.errors.AsmWhy.TheVariants as why
 use Rattle.avr_asm.specs.declared.first_pass.Effect.{Effect}
 use Rattle.avr_asm.specs.declared.first_pass.Effect.TheVariants.{Nothing, Move, Define, Take, Wrong}
 use Rattle.avr_asm.specs.declared.layout.Place.{Place}
 use Rattle.avr_asm.specs.declared.lines.Action.{Action}
 use Rattle.avr_asm.specs.declared.lines.Action.TheVariants as action
-use Rattle.avr_operands.specs.Faults.{OrFault, ◌>>=◌}
+use Rattle.avr_text.specs.Faults.{OrFault, ◌>>=◌}
 use Rattle.avr_asm.specs.Layout.{Layout, with_symbols, defined, labelled, named, at_address, address_after, applied, arguments_in}
 use Rattle.avr_asm.specs.Layout.{effect_of}
 use Rattle.avr_asm.specs.Layout.{effect_in, after_line, is_instruction, is_instruction_in, is_instruction_line, with_address, at_line}
 use Rattle.avr_asm.specs.Layout.{layout_from}
 use Rattle.avr_asm.specs.Lines.{content_of, label_of, body_of, action_of, parts_of, first_text}
-use Rattle.avr_operands.specs.Mnemonics.{words_of}
+use Rattle.avr_text.specs.Mnemonics.{words_of}
 use Rattle.avr_asm.proofs.OutcomeLemmas.{ok_same, bound}
 use Rattle.avr_asm.proofs.Decoding.{EachEven}
 

@@ -12,8 +12,8 @@ use Rattle.avr_text.specs.Names.{NameMap}
 use Rattle.avr_text.specs.Reading.{is_mark_of}
 use Rattle.avr_asm.specs.declared.directives.Directive.{Directive}
 use Rattle.avr_asm.specs.declared.directives.Directive.TheVariants as directive
-use Rattle.avr_operands.specs.declared.errors.AsmWhy.TheVariants as why
-use Rattle.avr_operands.specs.declared.mnemonics.Mnemonic.{Mnemonic}
+use Rattle.avr_text.specs.declared.errors.AsmWhy.TheVariants as why
+use Rattle.avr_text.specs.declared.mnemonics.Mnemonic.{Mnemonic}
 use Rattle.avr_asm.specs.declared.first_pass.Effect.{Effect}
 use Rattle.avr_asm.specs.declared.first_pass.Effect.TheVariants.{Nothing, Move, Define, Take, Wrong}
 use Rattle.avr_asm.specs.declared.lines.Action.{Action}
@@ -22,14 +22,14 @@ use Rattle.avr_asm.specs.declared.output.Hint.{Hint}
 use Rattle.avr_asm.specs.Codes.{first_word, second_word}
 use Rattle.avr_asm.specs.Emission.{bytes_of_number, data_value, with_number, data_from, padded, padded_outcome, byte_data, word_data}
 use Rattle.avr_asm.specs.Emission.{word_bytes, instruction_bytes}
-use Rattle.avr_operands.specs.Faults.{OrFault}
+use Rattle.avr_text.specs.Faults.{OrFault}
 use Rattle.avr_asm.specs.Hints.{hint_of, mapped}
-use Rattle.avr_operands.specs.Instructions.{instruction_of}
+use Rattle.avr_text.specs.Instructions.{instruction_of}
 use Rattle.avr_asm.specs.Layout.{is_start, is_cell, is_fact, moved, set, org_effect, equ_effect, directive_effect, effect_of, address_after}
 use Rattle.avr_asm.specs.LineOutputs.{LineOutput, no_output, instruction_output, data_output, hint_output, directive_output, action_output}
 use Rattle.avr_asm.specs.Lines.{is_name}
-use Rattle.avr_operands.specs.Mnemonics.{words_of}
-use Rattle.avr_operands.specs.Operands.{Operands, number, expression}
+use Rattle.avr_text.specs.Mnemonics.{words_of}
+use Rattle.avr_text.specs.Operands.{Operands, number, expression}
 use Rattle.avr_asm.specs.Relation.{end_by}
 use Rattle.avr_asm.proofs.OutcomeLemmas.{ok_same, made}
 

@@ -9,14 +9,14 @@ use Rattle.std.proofs.lemmas.List.Elements.{recursion_from_All, All-from_recursi
 use Rattle.avr_text.specs.declared.tokens.Token.{Token}
 use Rattle.avr_text.specs.Tokens.{Lies, text_of}
 use Rattle.avr_asm.specs.declared.directives.Directive.{Directive}
-use Rattle.avr_operands.specs.declared.mnemonics.Mnemonic.{Mnemonic}
+use Rattle.avr_text.specs.declared.mnemonics.Mnemonic.{Mnemonic}
 use Rattle.avr_asm.specs.declared.lines.Action.{Action}
 use Rattle.avr_asm.specs.declared.lines.Action.TheVariants as action
 use Rattle.avr_asm.specs.Directives.{directive_of}
 use Rattle.avr_asm.specs.Lines.{goes_on, lines_of, onto_first, first_len, is_comma, parts_of}
 use Rattle.avr_asm.specs.Lines.{is_name, directive_or_none, dot_action, arguments_of}
 use Rattle.avr_asm.specs.Layout.{EachShort}
-use Rattle.avr_operands.specs.Operands.{AllLie, EachLies}
+use Rattle.avr_text.specs.Operands.{AllLie, EachLies}
 
 -- the first that doesn't pass
 pub passes_no_more : (p : Token → Bool) (xs : List Token) (n : ℕ) (d : Token) → n < length xs → p (get_or xs n d) ≡ false

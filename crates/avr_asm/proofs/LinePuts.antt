@@ -12,9 +12,9 @@ use Rattle.avr_asm.specs.declared.lines.Action.TheVariants as action
 use Rattle.avr_asm.specs.declared.output.Hint.{Hint}
 use Rattle.avr_asm.specs.declared.output.Placed.{Placed}
 use Rattle.avr_asm.specs.Emission.{Flash, put, byte_data, word_data, instruction_bytes}
-use Rattle.avr_operands.specs.Faults.{OrFault, ◌>>=◌}
+use Rattle.avr_text.specs.Faults.{OrFault, ◌>>=◌}
 use Rattle.avr_asm.specs.Hints.{hint_of, mapped}
-use Rattle.avr_operands.specs.Instructions.{instruction_of}
+use Rattle.avr_text.specs.Instructions.{instruction_of}
 use Rattle.avr_asm.specs.Layout.{arguments_in}
 use Rattle.avr_asm.specs.Lines.{content_of, body_of, action_of, parts_of}
 use Rattle.avr_asm.specs.Assembly.{Output, with_image, with_item, with_instruction, with_data, with_hint, with_directive, with_action}

@@ -10,12 +10,12 @@ use Rattle.std.specs.Map.{keys_of}
 use Rattle.std.specs.FinMap.{nat_cmp-IsAntisymmetric, slice_cmp-IsAntisymmetric, get, insert, empty}
 use Rattle.std.proofs.lemmas.List.{append-nil}
 use Rattle.avr_text.specs.Names.{NameMap}
-use Rattle.avr_operands.specs.declared.errors.AsmWhy.TheVariants as why
+use Rattle.avr_text.specs.declared.errors.AsmWhy.TheVariants as why
 use Rattle.avr_asm.specs.declared.first_pass.Effect.{Effect}
 use Rattle.avr_asm.specs.declared.first_pass.Effect.TheVariants.{Nothing, Move, Define, Take, Wrong}
 use Rattle.avr_asm.specs.declared.layout.Place.{Place}
 use Rattle.avr_asm.specs.Emission.{Flash, put}
-use Rattle.avr_operands.specs.Faults.{OrFault}
+use Rattle.avr_text.specs.Faults.{OrFault}
 use Rattle.avr_asm.specs.Layout.{is_reserved, defined, with_symbols, labelled, named, with_value, with_values, port_names, core_names}
 use Rattle.avr_asm.specs.Layout.{data_names, with_first_ports, with_last_ports, with_core, with_data, predefined}
 use Rattle.avr_asm.specs.Relation.{bytes_from, label_entries, equ_entries, predefined_names}

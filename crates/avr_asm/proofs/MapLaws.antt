@@ -4,8 +4,8 @@ use Rattle.std.specs.Prelude.{Option, Some, None, Ok, Err}
 use Rattle.std.proofs.lemmas.List.{length-append}
 use Rattle.avr_text.specs.declared.tokens.Token.{Token}
 use Rattle.avr_text.specs.Names.{NameMap}
-use Rattle.avr_operands.specs.Faults.{OrFault}
-use Rattle.avr_operands.specs.Instructions.{instruction_of}
+use Rattle.avr_text.specs.Faults.{OrFault}
+use Rattle.avr_text.specs.Instructions.{instruction_of}
 use Rattle.avr_asm.specs.declared.directives.Directive.{Directive}
 use Rattle.avr_asm.specs.declared.directives.Directive.TheVariants as directive
 use Rattle.avr_asm.specs.declared.lines.Action.{Action}

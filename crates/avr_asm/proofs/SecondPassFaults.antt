@@ -7,9 +7,9 @@ use Rattle.std.specs.FinMap.{get, insert, gets, from_entries}
 use Rattle.std.proofs.lemmas.Bool.Decides.{nat_tests}
 use Rattle.avr_text.specs.declared.tokens.Token.{Token}
 use Rattle.avr_text.specs.Names.{NameMap}
-use Rattle.avr_operands.specs.declared.errors.AsmWhy.{AsmWhy}
-use Rattle.avr_operands.specs.declared.errors.AsmWhy.TheVariants as why
-use Rattle.avr_operands.specs.Faults.{OrFault, ◌>>=◌, number_of}
+use Rattle.avr_text.specs.declared.errors.AsmWhy.{AsmWhy}
+use Rattle.avr_text.specs.declared.errors.AsmWhy.TheVariants as why
+use Rattle.avr_text.specs.Faults.{OrFault, ◌>>=◌, number_of}
 use Rattle.avr_asm.specs.declared.errors.AsmError.{AsmError}
 use Rattle.avr_asm.specs.Assembly.{Output, following, with_line, at_line, output_from}
 use Rattle.avr_asm.specs.Emission.{Flash, put}

@@ -14,7 +14,7 @@ use Rattle.avr_asm.specs.declared.errors.AsmError.{AsmError}
 use Rattle.avr_asm.specs.declared.layout.Place.{Place}
 use Rattle.avr_asm.specs.declared.output.Built.{Built}
 use Rattle.avr_asm.specs.Emission.{put}
-use Rattle.avr_operands.specs.Faults.{OrFault, ◌>>=◌}
+use Rattle.avr_text.specs.Faults.{OrFault, ◌>>=◌}
 use Rattle.avr_asm.specs.Layout.{Layout, start, layout_from, arguments_in, is_reserved, effect_in, is_instruction_line, GivesLayout}
 use Rattle.avr_asm.specs.Lines.{lines_of, content_of, label_of, first_text, body_of, action_of, parts_of}
 use Rattle.avr_asm.specs.LineOutputs.{LineOutput, tokens_output, line_output}

@@ -8,8 +8,8 @@ use Rattle.std.specs.FinMap.{find, get, insert, nat_cmp-IsAntisymmetric}
 use Rattle.std.specs.Ordering.{nat_cmp, eq_by_cmp}
 use Rattle.std.proofs.lemmas.Cmp.{nat_cmp_total}
 use Rattle.avr_text.specs.Names.{NameMap}
-use Rattle.avr_operands.specs.declared.errors.AsmWhy.TheVariants as why
-use Rattle.avr_operands.specs.Faults.{OrFault, ◌>>=◌}
+use Rattle.avr_text.specs.declared.errors.AsmWhy.TheVariants as why
+use Rattle.avr_text.specs.Faults.{OrFault, ◌>>=◌}
 use Rattle.avr_text.specs.declared.tokens.Token.{Token}
 use Rattle.avr_asm.specs.Assembly.{Output, following, with_line, at_line, output_from}
 use Rattle.avr_asm.specs.Emission.{Flash, put}

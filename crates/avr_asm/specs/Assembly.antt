@@ -13,9 +13,9 @@ use Rattle.avr_asm.specs.declared.output.Built.{Built}
 use Rattle.avr_asm.specs.declared.output.Hint.{Hint}
 use Rattle.avr_asm.specs.declared.output.Placed.{Placed}
 use Rattle.avr_asm.specs.Emission.{Flash, put, byte_data, word_data, instruction_bytes}
-use Rattle.avr_operands.specs.Faults.{OrFault, ◌>>=◌}
+use Rattle.avr_text.specs.Faults.{OrFault, ◌>>=◌}
 use Rattle.avr_asm.specs.Hints.{hint_of}
-use Rattle.avr_operands.specs.Instructions.{instruction_of}
+use Rattle.avr_text.specs.Instructions.{instruction_of}
 use Rattle.avr_asm.specs.Layout.{Layout, layout_of, arguments_in, is_instruction_line}
 use Rattle.avr_asm.specs.Lines.{lines_of, content_of, body_of, action_of, parts_of}
 

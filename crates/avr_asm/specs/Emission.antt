@@ -8,11 +8,11 @@ use Rattle.std.specs.FinMap.{FinMap}
 use Rattle.avr_table.specs.declared.Instr.{Instr}
 use Rattle.avr_text.specs.declared.tokens.Token.{Token}
 use Rattle.avr_text.specs.Names.{NameMap}
-use Rattle.avr_operands.specs.declared.errors.AsmWhy.{AsmWhy}
-use Rattle.avr_operands.specs.declared.errors.AsmWhy.TheVariants as why
+use Rattle.avr_text.specs.declared.errors.AsmWhy.{AsmWhy}
+use Rattle.avr_text.specs.declared.errors.AsmWhy.TheVariants as why
 use Rattle.avr_asm.specs.Codes.{first_word, second_word, word_count}
-use Rattle.avr_operands.specs.Faults.{OrFault, least}
-use Rattle.avr_operands.specs.Operands.{number}
+use Rattle.avr_text.specs.Faults.{OrFault, least}
+use Rattle.avr_text.specs.Operands.{number}
 
 -- bits 0 to 7 of a number, and for a word bits 8 to 15 after them
 abbrev pub low_byte : ℤ → ℕ

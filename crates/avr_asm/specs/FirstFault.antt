@@ -9,10 +9,10 @@ use Rattle.std.specs.List.{list_any}
 use Rattle.std.specs.FinMap.{get, from_entries}
 use Rattle.avr_text.specs.declared.tokens.Token.{Token}
 use Rattle.avr_text.specs.Names.{NameMap}
-use Rattle.avr_operands.specs.declared.errors.AsmWhy.{AsmWhy}
-use Rattle.avr_operands.specs.declared.errors.AsmWhy.TheVariants as why
-use Rattle.avr_operands.specs.Faults.{number_of}
-use Rattle.avr_operands.specs.Operands.{expression, number}
+use Rattle.avr_text.specs.declared.errors.AsmWhy.{AsmWhy}
+use Rattle.avr_text.specs.declared.errors.AsmWhy.TheVariants as why
+use Rattle.avr_text.specs.Faults.{number_of}
+use Rattle.avr_text.specs.Operands.{expression, number}
 use Rattle.avr_asm.specs.declared.directives.Directive.TheVariants.{Org, Equ}
 use Rattle.avr_asm.specs.declared.first_pass.Effect.{Effect}
 use Rattle.avr_asm.specs.declared.first_pass.Effect.TheVariants.{Move, Define, Take, Wrong}

@@ -6,15 +6,15 @@ use Rattle.avr_text.specs.Names.{NameMap}
 use Rattle.uz_schedule.specs.declared.kinds.Kind.TheVariants.{Main, Handler, Alone}
 use Rattle.avr_asm.specs.declared.directives.Directive.{Directive}
 use Rattle.avr_asm.specs.declared.directives.Directive.TheVariants as directive
-use Rattle.avr_operands.specs.declared.errors.AsmWhy.TheVariants as why
+use Rattle.avr_text.specs.declared.errors.AsmWhy.TheVariants as why
 use Rattle.avr_asm.specs.declared.output.Hint.{Hint}
 use Rattle.avr_asm.specs.declared.output.Hint.TheVariants as hint
-use Rattle.avr_operands.specs.declared.pointers.Pointer.{Pointer}
-use Rattle.avr_operands.specs.declared.pointers.Pointer.TheVariants.{X, Y, Z}
-use Rattle.avr_operands.specs.Faults.{OrFault}
-use Rattle.avr_operands.specs.Instructions.{pointer_named}
+use Rattle.avr_text.specs.declared.pointers.Pointer.{Pointer}
+use Rattle.avr_text.specs.declared.pointers.Pointer.TheVariants.{X, Y, Z}
+use Rattle.avr_text.specs.Faults.{OrFault}
+use Rattle.avr_text.specs.Instructions.{pointer_named}
 use Rattle.avr_asm.specs.Layout.{is_word}
-use Rattle.avr_operands.specs.Operands.{both, name_of, number, register_of}
+use Rattle.avr_text.specs.Operands.{both, name_of, number, register_of}
 
 abbrev pub natural : OrFault ℤ → OrFault ℕ
 natural (Ok x) = Ok (unsigned_abs x)

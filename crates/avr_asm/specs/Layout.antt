@@ -13,18 +13,18 @@ use Rattle.avr_text.specs.declared.tokens.Token.{Token}
 use Rattle.avr_text.specs.Names.{NameMap}
 use Rattle.avr_asm.specs.declared.directives.Directive.{Directive}
 use Rattle.avr_asm.specs.declared.directives.Directive.TheVariants.{Org, Db, Dw, Equ, Start, Lines, Half, Stack, Cell, Fact}
-use Rattle.avr_operands.specs.declared.errors.AsmWhy.TheVariants as why
+use Rattle.avr_text.specs.declared.errors.AsmWhy.TheVariants as why
 use Rattle.avr_asm.specs.declared.errors.AsmError.{AsmError}
 use Rattle.avr_asm.specs.declared.layout.Place.{Place}
 use Rattle.avr_asm.specs.declared.first_pass.Effect.{Effect}
 use Rattle.avr_asm.specs.declared.first_pass.Effect.TheVariants.{Nothing, Move, Define, Take, Wrong}
 use Rattle.avr_asm.specs.declared.lines.Action.{Action}
 use Rattle.avr_asm.specs.declared.lines.Action.TheVariants as action
-use Rattle.avr_operands.specs.Faults.{OrFault, ◌>>=◌}
-use Rattle.avr_operands.specs.Instructions.{pointer_named}
+use Rattle.avr_text.specs.Faults.{OrFault, ◌>>=◌}
+use Rattle.avr_text.specs.Instructions.{pointer_named}
 use Rattle.avr_asm.specs.Lines.{content_of, label_of, body_of, action_of, arguments_of, parts_of, is_name, is_equals, first_text}
-use Rattle.avr_operands.specs.Mnemonics.{words_of}
-use Rattle.avr_operands.specs.Operands.{register_of, expression, number, name_of}
+use Rattle.avr_text.specs.Mnemonics.{words_of}
+use Rattle.avr_text.specs.Operands.{register_of, expression, number, name_of}
 
 -- register and pointer names can't be defined
 abbrev pub is_reserved : List ℕ → Bool

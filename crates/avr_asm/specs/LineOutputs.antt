@@ -10,9 +10,9 @@ use Rattle.avr_asm.specs.declared.lines.Action.{Action}
 use Rattle.avr_asm.specs.declared.lines.Action.TheVariants as action
 use Rattle.avr_asm.specs.declared.output.Hint.{Hint}
 use Rattle.avr_asm.specs.Emission.{byte_data, word_data, instruction_bytes}
-use Rattle.avr_operands.specs.Faults.{OrFault, ◌>>=◌}
+use Rattle.avr_text.specs.Faults.{OrFault, ◌>>=◌}
 use Rattle.avr_asm.specs.Hints.{hint_of, mapped}
-use Rattle.avr_operands.specs.Instructions.{instruction_of}
+use Rattle.avr_text.specs.Instructions.{instruction_of}
 use Rattle.avr_asm.specs.Layout.{arguments_in}
 use Rattle.avr_asm.specs.Lines.{content_of, body_of, action_of, parts_of}
 

@@ -10,13 +10,13 @@ use Rattle.avr_text.specs.declared.tokens.TokenKind.TheVariants.{Name, LineEnd}
 use Rattle.avr_text.specs.Reading.{is_mark_of}
 use Rattle.avr_text.specs.Tokens.{text_of, tokens_of}
 use Rattle.avr_asm.specs.declared.directives.Directive.{Directive}
-use Rattle.avr_operands.specs.declared.errors.AsmWhy.TheVariants.{Lex}
+use Rattle.avr_text.specs.declared.errors.AsmWhy.TheVariants.{Lex}
 use Rattle.avr_asm.specs.declared.lines.Action.{Action}
 use Rattle.avr_asm.specs.declared.lines.Action.TheVariants as action
-use Rattle.avr_operands.specs.declared.mnemonics.Mnemonic.{Mnemonic}
+use Rattle.avr_text.specs.declared.mnemonics.Mnemonic.{Mnemonic}
 use Rattle.avr_asm.specs.Directives.{directive_of}
-use Rattle.avr_operands.specs.Faults.{OrFault}
-use Rattle.avr_operands.specs.Mnemonics.{mnemonic_of}
+use Rattle.avr_text.specs.Faults.{OrFault}
+use Rattle.avr_text.specs.Mnemonics.{mnemonic_of}
 
 -- a line goes to its LF, which a last line may lack
 abbrev pub onto_first : ℕ → List (List ℕ) → List (List ℕ)

@@ -1,7 +1,7 @@
 -- Where the labels of a source lie, and which lines its hints stand on.
 use Rattle.std.specs.Prelude.{ℕ, ◌+◌, Bool, true, false, List, [], ◌∷◌, ◌++◌, Option, Some, None, Result, Ok, Err, if◌then◌else◌}
 use Rattle.avr_text.specs.declared.tokens.Token.{Token}
-use Rattle.avr_operands.specs.Faults.{OrFault}
+use Rattle.avr_text.specs.Faults.{OrFault}
 use Rattle.avr_asm.specs.declared.directives.Directive.{Directive}
 use Rattle.avr_asm.specs.declared.directives.Directive.TheVariants.{Org, Db, Dw, Equ}
 use Rattle.avr_asm.specs.declared.errors.AsmError.{AsmError}

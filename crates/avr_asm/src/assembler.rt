@@ -2,14 +2,14 @@
 
 ghost use Rattle.std.specs.Prelude.{◌≡◌, ◌<◌, ◌≤◌, ◌-◌, ◌+◌, ◌^◌, ◌⊎◌, ℕ, All, IfErr, IfOk, OnOk, MatchResult, Ok, Err};
 ghost use Rattle.std.specs.Prelude.{length, drop, map as mapped};
-ghost use Rattle.avr_operands.specs.Faults.{Gives};
-ghost use Rattle.avr_operands.specs.Operands.{AllLie, EachLies};
+ghost use Rattle.avr_text.specs.Faults.{Gives};
+ghost use Rattle.avr_text.specs.Operands.{AllLie, EachLies};
 ghost use Rattle.avr_asm.specs.Layout.{EachShort, GivesLayout};
 ghost use Rattle.uz_hex.specs.Cells.{IsFlash};
 ghost use Rattle.avr_asm.specs.Items.{IsDecoded, IsInFlash};
 ghost use Rattle.avr_asm.specs.Relation.{IsAssembly};
 ghost use Rattle.avr_asm.specs.FirstFault.{IsFirstFault};
-ghost use Rattle.avr_operands.specs.declared.errors.AsmWhy.{AsmWhy};
+ghost use Rattle.avr_text.specs.declared.errors.AsmWhy.{AsmWhy};
 ghost use Rattle.avr_asm.specs.Assembly.{Output, seen_built, with_instruction, with_data, with_hint, with_directive};
 ghost use Rattle.avr_asm.specs.Assembly.{with_action, with_line, following as following_address, output_from, assembly};
 ghost use Rattle.avr_asm.specs.Taken.{assembly_over, over};
@@ -21,9 +21,8 @@ use crate::hints::hint_of;
 use crate::layout::{is_instruction_line, lay_out};
 use crate::lines::{Action, action_of, arguments_of, body_of, content_of, lines_of, parts_of};
 use crate::output::{Built, Placed};
-use avr_operands::{AsmWhy, Operands, name_gives_word_count};
 use avr_table::Instr;
-use avr_text::{Symbols, Token, value_is_kept};
+use avr_text::{AsmWhy, Operands, Symbols, Token, name_gives_word_count, value_is_kept};
 use std::alloc::Global;
 use uz_hex::Image;
 

@@ -1,17 +1,16 @@
 //! What a line puts out.
 
 ghost use Rattle.std.specs.Prelude.{◌≡◌, ◌≤◌, ◌++◌, ◌∷◌, [], IfOk, OnOk, MatchResult, Ok, Err, length, map as mapped};
-ghost use Rattle.avr_operands.specs.Faults.{Gives};
-ghost use Rattle.avr_operands.specs.Operands.{AllLie, EachLies};
+ghost use Rattle.avr_text.specs.Faults.{Gives};
+ghost use Rattle.avr_text.specs.Operands.{AllLie, EachLies};
 ghost use Rattle.avr_asm.specs.Codes.{first_word, second_word, word_count};
 ghost use Rattle.avr_asm.specs.Emission.{low_byte as low_byte_of, bytes_of_number, data_value, data_from, data_state};
 ghost use Rattle.avr_asm.specs.Emission.{with_number, least_of_faults, byte_data as byte_data_of};
 ghost use Rattle.avr_asm.specs.Emission.{word_data as word_data_of, word_bytes, instruction_bytes, put as put_bytes};
 
 use avr_decode::{Code, encode};
-use avr_operands::{AsmWhy, number};
 use avr_table::Instr;
-use avr_text::{Symbols, Token};
+use avr_text::{AsmWhy, Symbols, Token, number};
 use std::alloc::{AllocError, Global};
 use uz_hex::Image;
 

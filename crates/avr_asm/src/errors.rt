@@ -1,9 +1,9 @@
 //! Why a source is refused.
 
 ghost use Rattle.std.specs.Prelude.{◌≡◌, ◌⊎◌};
-ghost use Rattle.avr_operands.specs.declared.errors.AsmWhy.TheVariants.{Memory};
+ghost use Rattle.avr_text.specs.declared.errors.AsmWhy.TheVariants.{Memory};
 
-use avr_operands::AsmWhy;
+use avr_text::AsmWhy;
 use std::alloc::{AllocError, AllocFailed};
 
 /// The fault for which a source is refused.
@@ -31,7 +31,7 @@ impl AsmError {
 
 impl From<AllocError> for AsmError {
     ghost use Rattle.std.specs.Prelude.{◌≡◌};
-    ghost use Rattle.avr_operands.specs.declared.errors.AsmWhy.TheVariants.{Memory};
+    ghost use Rattle.avr_text.specs.declared.errors.AsmWhy.TheVariants.{Memory};
 
     ghost from_gives = { λ _ e. (e.why ≡ Memory) × (e.line ≡ 0) };
 
@@ -45,7 +45,7 @@ impl From<AllocError> for AsmError {
 
 impl<T: Drop> From<AllocFailed<T>> for AsmError {
     ghost use Rattle.std.specs.Prelude.{◌≡◌};
-    ghost use Rattle.avr_operands.specs.declared.errors.AsmWhy.TheVariants.{Memory};
+    ghost use Rattle.avr_text.specs.declared.errors.AsmWhy.TheVariants.{Memory};
 
     ghost from_gives = { λ _ e. (e.why ≡ Memory) × (e.line ≡ 0) };
 

@@ -1,7 +1,7 @@
 //! The first pass over the lines: addresses and symbols.
 
 ghost use Rattle.std.specs.Prelude.{◌≡◌, ◌<◌, ◌≤◌, ◌^◌, false, IfOk, length, map};
-ghost use Rattle.avr_operands.specs.Operands.{AllLie, EachLies};
+ghost use Rattle.avr_text.specs.Operands.{AllLie, EachLies};
 ghost use Rattle.avr_asm.specs.declared.first_pass.Effect.TheVariants.{Take};
 ghost use Rattle.avr_asm.specs.Layout.{is_reserved as is_reserved_name, is_word as is_word_operand};
 ghost use Rattle.avr_asm.specs.Layout.{is_start as is_start_shape, is_cell as is_cell_shape, is_fact as is_fact_of};
@@ -11,8 +11,9 @@ ghost use Rattle.avr_asm.specs.Layout.{effect_of as effect_of_line, address_afte
 
 use crate::directives::Directive;
 use crate::lines::{Action, is_equals, is_name};
-use avr_operands::{AsmWhy, expression, find_pointer, name_of, number, register_number};
-use avr_text::{Symbols, Token, TokenKind};
+use avr_text::{
+    AsmWhy, Symbols, Token, TokenKind, expression, find_pointer, name_of, number, register_number,
+};
 use uz_hex::FLASH_BYTES;
 
 /// What a line does to the addresses and symbols of the lines after it.

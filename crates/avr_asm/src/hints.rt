@@ -1,7 +1,7 @@
 //! The hint directives.
 
 ghost use Rattle.std.specs.Prelude.{◌≡◌, ◌<◌, length, map};
-ghost use Rattle.avr_operands.specs.Operands.{AllLie, EachLies};
+ghost use Rattle.avr_text.specs.Operands.{AllLie, EachLies};
 ghost use Rattle.avr_asm.specs.Hints.{short as short_operand, byte as byte_operand};
 ghost use Rattle.avr_asm.specs.Hints.{word_address as word_address_operand, place_of as place_of_operand, start_hint};
 ghost use Rattle.avr_asm.specs.Hints.{lines_hint, half_hint, stack_hint, cell_hint, fact_at as fact_at_address};
@@ -12,8 +12,9 @@ ghost use Rattle.avr_asm.specs.Hints.{pointer_place as pointer_place_of, hint_of
 use crate::directives::Directive;
 use crate::first_pass::is_word;
 use crate::output::Hint;
-use avr_operands::{AsmWhy, Pointer, both, find_pointer, name_of, number, register_number};
-use avr_text::{Symbols, Token};
+use avr_text::{
+    AsmWhy, Pointer, Symbols, Token, both, find_pointer, name_of, number, register_number,
+};
 use uz_schedule::Kind;
 
 /// A number of 16 bits.

@@ -13,10 +13,9 @@ ghost use Rattle.avr_asm.specs.Taken.{Hits, Misses, assembly_over};
 ghost use Rattle.avr_asm.specs.declared.errors.AsmError.{AsmError};
 ghost use Rattle.avr_asm.specs.declared.labels.Label.{Label};
 ghost use Rattle.avr_asm.specs.declared.first_pass.Effect.TheVariants.{Move};
-ghost use Rattle.avr_operands.specs.declared.errors.AsmWhy.{AsmWhy};
+ghost use Rattle.avr_text.specs.declared.errors.AsmWhy.{AsmWhy};
 
-use avr_operands::name_gives_word_count;
-use avr_text::value_is_kept;
+use avr_text::{name_gives_word_count, value_is_kept};
 
 /// The law that the plain definition in two passes gives an assembly exactly where it stands in the relation of the source.
 /// Does nothing.

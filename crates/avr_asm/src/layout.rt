@@ -3,8 +3,8 @@
 ghost use Rattle.std.specs.Prelude.{◌≡◌, ◌<◌, ◌≤◌, ◌-◌, ◌^◌, All, IfErr, IfOk, OnOk, MatchResult, length, map as mapped};
 ghost use Rattle.std.specs.Option.{option_copied};
 ghost use Rattle.std.specs.FinMap as map;
-ghost use Rattle.avr_operands.specs.Faults.{Gives};
-ghost use Rattle.avr_operands.specs.Operands.{AllLie};
+ghost use Rattle.avr_text.specs.Faults.{Gives};
+ghost use Rattle.avr_text.specs.Operands.{AllLie};
 ghost use Rattle.avr_asm.specs.Layout.{with_value, with_values, with_first_ports, with_last_ports, with_core, with_data};
 ghost use Rattle.avr_asm.specs.Layout.{predefined as predefined_names};
 ghost use Rattle.avr_asm.specs.Layout.{defined, labelled, named, applied as applied_effect};
@@ -16,8 +16,7 @@ ghost use Rattle.avr_asm.specs.Lines.{first_text};
 use crate::errors::AsmError;
 use crate::first_pass::{Effect, address_after, effect_of, is_reserved};
 use crate::lines::{Action, action_of, arguments_of, body_of, content_of, label_of, parts_of};
-use avr_operands::AsmWhy;
-use avr_text::{Symbols, Token, text_of};
+use avr_text::{AsmWhy, Symbols, Token, text_of};
 use std::alloc::{AllocError, Global};
 
 /// Addresses and symbols as far as the lines have been read.

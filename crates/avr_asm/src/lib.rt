@@ -15,7 +15,7 @@ mod output;
 mod source_maps;
 
 pub use assembler::{assemble, assemble_over};
-pub use avr_operands::AsmWhy;
+pub use avr_text::AsmWhy;
 pub use errors::AsmError;
 pub use labels::{Label, Labels};
 pub use laws::{

@@ -3,8 +3,8 @@
 ghost use Rattle.std.specs.Prelude.{◌≡◌, ◌<◌, ◌≤◌, ◌-◌, ◌^◌, IfOk, length, map};
 ghost use Rattle.std.specs.Option.{option_copied};
 ghost use Rattle.std.specs.List.{prefix_len, slice_split};
-ghost use Rattle.avr_operands.specs.Faults.{Gives};
-ghost use Rattle.avr_operands.specs.Operands.{AllLie, EachLies};
+ghost use Rattle.avr_text.specs.Faults.{Gives};
+ghost use Rattle.avr_text.specs.Operands.{AllLie, EachLies};
 ghost use Rattle.avr_asm.specs.Lines.{goes_on as goes_on_line, first_len, lines_of as lines_of_text};
 ghost use Rattle.avr_asm.specs.Lines.{is_name as is_name_token, is_colon as is_colon_mark, is_dot as is_dot_mark};
 ghost use Rattle.avr_asm.specs.Lines.{is_equals as is_equals_mark, begins_with_label as begins_with_label_tokens};
@@ -15,8 +15,7 @@ ghost use Rattle.avr_asm.specs.Lines.{is_content as is_content_token, is_comma a
 ghost use Rattle.avr_asm.specs.Lines.{parts_of as parts_of_tokens};
 
 use crate::directives::{Directive, directive_of};
-use avr_operands::{AsmWhy, Mnemonic, mnemonic_of};
-use avr_text::{LexWhy, Token, TokenKind, lex, text_of};
+use avr_text::{AsmWhy, LexWhy, Mnemonic, Token, TokenKind, lex, mnemonic_of, text_of};
 use std::alloc::{AllocError, Global};
 
 /// What a line holds after its label.

@@ -13,7 +13,7 @@ use crate::errors::AsmError;
 use crate::labels::{Label, Labels};
 use crate::layout::lay_out;
 use crate::lines::{Action, action_of, body_of, content_of, label_of, lines_of};
-use avr_operands::AsmWhy;
+use avr_text::AsmWhy;
 use std::alloc::{AllocError, Global};
 use uz_schedule::Sequence;
 

@@ -1,1 +1,3 @@
 pub mod OneListing
+pub mod EachRow
+pub mod Listed

@@ -4,7 +4,7 @@ use Rattle.std.specs.Prelude.{◌⊎◌, Option, Some, None, codes, decimal, nat
 use Rattle.std.specs.Ordering.{nat_cmp}
 use Rattle.std.specs.FinMap.{FinMap, get}
 use Rattle.uz_hex.specs.Cells.{word_of}
-use Rattle.uz_text.specs.Hexadecimals.{hex_word}
+use Rattle.uz_hex.specs.Hexadecimals.{hex_word}
 use Rattle.avr_table.specs.declared.Instr.{Instr}
 use Rattle.avr_table.specs.Rows.{Reads, words_of}
 use Rattle.avr_dis.specs.Text.{text_of}

@@ -9,8 +9,7 @@ use avr_decode::decode;
 use avr_table::words;
 use itoa::Buffer;
 use std::alloc::{AllocError, Global};
-use uz_hex::{FLASH_WORDS, Image};
-use uz_text::word_digits;
+use uz_hex::{FLASH_WORDS, Image, word_digits};
 
 /// The listing of a flash image: a line for each word of which a byte is present, in order.
 ///

@@ -1,8 +1,8 @@
 -- The level of a file, from its first line on.
 use Rattle.std.proofs.Common.{◌≡◌, ℕ, ◌+◌, ◌-◌, ◌<◌, ◌≤◌, true, false, List, length, sym, ◌∙◌, ap, arith}
 use Rattle.std.specs.List.{slice_range}
-use Rattle.avr_macro_lines.specs.Lines.{lines_of}
-use Rattle.avr_macro_lines.proofs.Slices.{whole_body}
+use Rattle.avr_macro.specs.Lines.{lines_of}
+use Rattle.avr_macro.proofs.Slices.{whole_body}
 use Rattle.avr_macro.specs.States.{file_level}
 
 pub file_begins : (body lines : List (List ℕ)) (bytes : List ℕ) (file includes n : ℕ) → n ≡ length lines → body ≡ lines

@@ -6,3 +6,15 @@ pub mod Runs
 pub mod Reasons
 pub mod Whole
 pub mod Files
+pub mod Fronts
+pub mod Slices
+pub mod Kept
+pub mod Settled
+pub mod Needed
+pub mod SameBlocks
+pub mod Steady
+pub mod Quiet
+pub mod Filled
+pub mod BlockEnds
+pub mod Reading
+pub mod TextLines

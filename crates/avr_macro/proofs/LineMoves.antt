@@ -8,15 +8,15 @@ use Rattle.avr_macro.specs.declared.errors.MacroWhy.{MacroWhy}
 use Rattle.avr_macro.specs.declared.errors.MacroWhy.TheVariants as why
 use Rattle.avr_macro.specs.declared.frames.Frame.{Frame}
 use Rattle.avr_macro.specs.declared.origin.Origin.{Origin}
-use Rattle.avr_macro_lines.specs.Arguments.{arguments_of, replaced}
-use Rattle.avr_macro_lines.specs.Directives.{after_first_word, first_word}
+use Rattle.avr_macro.specs.Arguments.{arguments_of, replaced}
+use Rattle.avr_macro.specs.Directives.{after_first_word, first_word}
 use Rattle.avr_macro.specs.Moves.{Move, refuses, body_of, call, enter, included, lacks_one, line_move, move_at, move_of, other_by, other_move, unless}
 use Rattle.avr_macro.specs.Moves.{goes, is_full, plain_move, put_line, repeat_times, repeated, with_setting}
 use Rattle.avr_macro.specs.States.{Level, MacroMap, State, file_level, include_limit, inside, passed, text_limit}
-use Rattle.avr_macro_lines.specs.Blocks.{is_zero}
-use Rattle.avr_macro_lines.specs.Values.{Setting}
+use Rattle.avr_macro.specs.Blocks.{is_zero}
+use Rattle.avr_macro.specs.Values.{Setting}
 use Rattle.avr_macro.specs.Views.{seen_frame}
-use Rattle.avr_macro_lines.proofs.Slices.{next_line}
+use Rattle.avr_macro.proofs.Slices.{next_line}
 
 -- a line that calls a macro
 abbrev pub entered : List (List ℕ) → Level → State → Move

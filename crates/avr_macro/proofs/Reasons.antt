@@ -5,22 +5,22 @@ use Rattle.std.specs.FinMap as finmap
 use Rattle.std.proofs.lemmas.Bool.Decides.{nat_tests}
 use Rattle.std.proofs.lemmas.List.{length-append}
 use Rattle.uz_shelf.specs.Files.{FileMap}
-use Rattle.avr_macro_lines.specs.declared.directives.Word.{Word}
-use Rattle.avr_macro_lines.specs.declared.directives.Word.TheVariants.{Macro, EndMacro, Repeat, EndRepeat, If, Else, EndIf, Include, Constant}
-use Rattle.avr_macro_lines.specs.declared.directives.Word.TheVariants.{Other}
+use Rattle.avr_macro.specs.declared.directives.Word.{Word}
+use Rattle.avr_macro.specs.declared.directives.Word.TheVariants.{Macro, EndMacro, Repeat, EndRepeat, If, Else, EndIf, Include, Constant}
+use Rattle.avr_macro.specs.declared.directives.Word.TheVariants.{Other}
 use Rattle.avr_macro.specs.declared.errors.MacroWhy.{MacroWhy}
 use Rattle.avr_macro.specs.declared.errors.MacroWhy.TheVariants as why
-use Rattle.avr_macro_lines.specs.Arguments.{arguments_of, replaced}
-use Rattle.avr_macro_lines.specs.Blocks.{is_zero, macro_end, repeat_end, if_end, if_else}
-use Rattle.avr_macro_lines.specs.Directives.{after_first_word, directive_of, first_word, macro_name, operands_of}
-use Rattle.avr_macro_lines.specs.Lines.{is_bare, trimmed}
+use Rattle.avr_macro.specs.Arguments.{arguments_of, replaced}
+use Rattle.avr_macro.specs.Blocks.{is_zero, macro_end, repeat_end, if_end, if_else}
+use Rattle.avr_macro.specs.Directives.{after_first_word, directive_of, first_word, macro_name, operands_of}
+use Rattle.avr_macro.specs.Lines.{is_bare, trimmed}
 use Rattle.avr_macro.specs.Moves.{Move, goes, loads, refuses, body_of, call, chosen_part, closed_by, define, enter, file_name, if_body}
 use Rattle.avr_macro.specs.Moves.{if_valued, include_named, included, later, macro_body, macro_named, is_full, is_null, lacks_one, move_at}
 use Rattle.avr_macro.specs.Moves.{move_of, other_by, part, plain_move, put_line, reach, repeated, repeat_body, repeat_times, turn_end}
 use Rattle.avr_macro.specs.Moves.{turned, unless, word_move}
 use Rattle.avr_macro.specs.States.{Level, State, around, file_level, inside, passed}
 use Rattle.avr_macro.specs.Expansion.{Reaches, reaches_here, reaches_more, Step, step_goes, step_loads}
-use Rattle.avr_macro_lines.specs.Values.{Setting, setting_of, text_value}
+use Rattle.avr_macro.specs.Values.{Setting, setting_of, text_value}
 
 abbrev OfLine : MacroWhy → Type 0
 OfLine why.Unread = ⊥

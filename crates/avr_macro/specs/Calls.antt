@@ -3,7 +3,7 @@ use Rattle.std.specs.Prelude.{◌≡◌, ◌⊎◌, ℕ, true, false, List, map,
 use Rattle.avr_macro.specs.declared.bodies.Call.{Call}
 use Rattle.avr_macro.specs.declared.errors.MacroWhy.{MacroWhy}
 use Rattle.avr_macro.specs.declared.errors.MacroWhy.TheVariants.{Argument, Memory}
-use Rattle.avr_macro_lines.specs.Arguments.{replaced}
+use Rattle.avr_macro.specs.Arguments.{replaced}
 use Rattle.avr_macro.specs.Moves.{lacks_one}
 use Rattle.avr_macro.specs.Views.{seen_called}
 

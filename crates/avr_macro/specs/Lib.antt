@@ -7,3 +7,14 @@ pub mod Calls
 pub mod Steps
 pub mod Answers
 pub mod WhyNames
+pub mod Lines
+pub mod Directives
+pub mod Arguments
+pub mod Bodies
+pub mod AtSigns
+pub mod Blocks
+pub mod Ends
+pub mod Kinds
+pub mod Readers
+pub mod Values
+pub mod LineViews

@@ -4,19 +4,19 @@ use Rattle.std.specs.Prelude.{length, map, drop, slice_index_or, Option, Some, N
 use Rattle.std.specs.List.{slice_range}
 use Rattle.std.specs.FinMap as finmap
 use Rattle.avr_text.specs.Names.{NameMap}
-use Rattle.avr_macro_lines.specs.declared.directives.Word.{Word}
-use Rattle.avr_macro_lines.specs.declared.directives.Word.TheVariants.{Macro, EndMacro, Repeat, EndRepeat, If, Else, EndIf, Include, Constant}
-use Rattle.avr_macro_lines.specs.declared.directives.Word.TheVariants.{Other}
+use Rattle.avr_macro.specs.declared.directives.Word.{Word}
+use Rattle.avr_macro.specs.declared.directives.Word.TheVariants.{Macro, EndMacro, Repeat, EndRepeat, If, Else, EndIf, Include, Constant}
+use Rattle.avr_macro.specs.declared.directives.Word.TheVariants.{Other}
 use Rattle.avr_macro.specs.declared.errors.MacroWhy.{MacroWhy}
 use Rattle.avr_macro.specs.declared.errors.MacroWhy.TheVariants as why
-use Rattle.avr_macro_lines.specs.Arguments.{arguments_of, is_empty, any_lacks, replaced}
-use Rattle.avr_macro_lines.specs.Blocks.{is_zero, macro_end, repeat_end, if_end, if_else}
-use Rattle.avr_macro_lines.specs.Directives.{after_first_word, closes_well, directive_of, first_word, macro_name, operands_of}
-use Rattle.avr_macro_lines.specs.Lines.{is_bare, trimmed}
+use Rattle.avr_macro.specs.Arguments.{arguments_of, is_empty, any_lacks, replaced}
+use Rattle.avr_macro.specs.Blocks.{is_zero, macro_end, repeat_end, if_end, if_else}
+use Rattle.avr_macro.specs.Directives.{after_first_word, closes_well, directive_of, first_word, macro_name, operands_of}
+use Rattle.avr_macro.specs.Lines.{is_bare, trimmed}
 use Rattle.avr_macro.specs.States.{Level, State, block_limit, file_level, include_limit, inside, line_limit, next_turn, passed, text_limit}
 use Rattle.std.specs.Str.{is_utf8}
 use Prim.Native.Char.{code}
-use Rattle.avr_macro_lines.specs.Values.{Setting, setting_of, text_value}
+use Rattle.avr_macro.specs.Values.{Setting, setting_of, text_value}
 
 -- expansion goes on, or asks for a file, or a line is refused
 pub data Move : Type 0 where

@@ -6,8 +6,8 @@ use Rattle.std.specs.FinMap as map
 use Rattle.avr_text.specs.Names.{NameMap}
 use Rattle.avr_asm.specs.Layout.{predefined}
 use Rattle.avr_macro.specs.declared.origin.Origin.{Origin}
-use Rattle.avr_macro_lines.specs.Blocks.{is_zero}
-use Rattle.avr_macro_lines.specs.Lines.{lines_of}
+use Rattle.avr_macro.specs.Blocks.{is_zero}
+use Rattle.avr_macro.specs.Lines.{lines_of}
 
 -- the limits: files that a file is included in, blocks and calls that a block or call stands in, lines that are
 -- reached, and bytes of a file and of the flat text

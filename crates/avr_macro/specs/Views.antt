@@ -3,11 +3,11 @@ use Rattle.std.specs.Prelude.{◌≡◌, ◌⊎◌, ℕ, true, false, List, [], 
 use Rattle.std.specs.List.{slice_range}
 use Rattle.avr_macro.specs.declared.errors.MacroWhy.{MacroWhy}
 use Rattle.avr_macro.specs.declared.errors.MacroWhy.TheVariants.{Argument, Memory}
-use Rattle.avr_macro_lines.specs.declared.directives.Word.{Word}
+use Rattle.avr_macro.specs.declared.directives.Word.{Word}
 use Rattle.avr_macro.specs.declared.bodies.Called.{Called}
 use Rattle.avr_macro.specs.declared.frames.Frame.{Frame}
-use Rattle.avr_macro_lines.specs.Directives.{directive_of}
-use Rattle.avr_macro_lines.specs.Arguments.{replaced}
+use Rattle.avr_macro.specs.Directives.{directive_of}
+use Rattle.avr_macro.specs.Arguments.{replaced}
 use Rattle.avr_macro.specs.Moves.{lacks_one}
 use Rattle.avr_macro.specs.States.{Level}
 

@@ -2,16 +2,16 @@
 
 ghost use Rattle.std.specs.Prelude.{◌≡◌, ◌<◌, ◌≤◌, [], ◌||◌, IfOk, IfSome, Some, length, map, nat_lt, slice_index_or, true};
 ghost use Rattle.std.specs.List.{slice_range};
-ghost use Rattle.avr_macro_lines.specs.Arguments.{any_lacks, replaced as replaced_line};
-ghost use Rattle.avr_macro_lines.specs.AtSigns.{KeepsDirectives, are_quiet as are_quiet_lines, are_settled, filled, puts_plain};
-ghost use Rattle.avr_macro_lines.specs.AtSigns.{are_steady as are_steady_lines, needed_by as needed_by_lines};
-ghost use Rattle.avr_macro_lines.specs.Directives.{closes_well as closes_well_line};
-ghost use Rattle.avr_macro_lines.specs.Ends.{blocks_from, closing_at};
-ghost use Rattle.avr_macro_lines.specs.Kinds.{AreBlocks};
-ghost use Rattle.avr_macro_lines.specs.declared.directives.Word.TheVariants as words;
+ghost use Rattle.avr_macro.specs.Arguments.{any_lacks, replaced as replaced_line};
+ghost use Rattle.avr_macro.specs.AtSigns.{KeepsDirectives, are_quiet as are_quiet_lines, are_settled, filled, puts_plain};
+ghost use Rattle.avr_macro.specs.AtSigns.{are_steady as are_steady_lines, needed_by as needed_by_lines};
+ghost use Rattle.avr_macro.specs.Directives.{closes_well as closes_well_line};
+ghost use Rattle.avr_macro.specs.Ends.{blocks_from, closing_at};
+ghost use Rattle.avr_macro.specs.Kinds.{AreBlocks};
+ghost use Rattle.avr_macro.specs.declared.directives.Word.TheVariants as words;
 
 use crate::errors::MacroWhy;
-use avr_macro_lines::{
+use crate::{
     Blocks, Closing, Lines, Substitution, are_plain, are_quiet, are_steady, closes_well,
     closes_well_in_call, closing_of, have_dot, needed_by, replaced,
 };
@@ -61,8 +61,8 @@ pub(crate) struct Body {
 impl Model for Body {
     ghost use Rattle.std.specs.Prelude.{List, ℕ};
     ghost use Rattle.std.specs.Coded.{coded_ℕ, coded_list};
-    ghost use Rattle.avr_macro_lines.specs.AtSigns.{filled};
-    ghost use Rattle.avr_macro_lines.specs.Kinds.{AreBlocks};
+    ghost use Rattle.avr_macro.specs.AtSigns.{filled};
+    ghost use Rattle.avr_macro.specs.Kinds.{AreBlocks};
 
     ghost Value = { List (List ℕ) };
 
@@ -175,7 +175,7 @@ impl Template {
     }
 
     /// Whether no line is known to be of another directive in a call.
-    #[tactic(auto, using(avr_macro_lines::proofs::Steady::steady_kept, avr_macro_lines::proofs::Quiet::quiet_kept))]
+    #[tactic(auto, using(crate::proofs::Steady::steady_kept, crate::proofs::Quiet::quiet_kept))]
     fn keeps_directives(&self, substitution: &Substitution) -> bool
         ensures { result ≡ true →
             KeepsDirectives (replaced_line substitution.now.arguments substitution.now.call) self.now.text.value.lines }
@@ -221,7 +221,7 @@ impl Template {
     }
 
     /// Whether a call has more than ten arguments, or lacks one that the lines name.
-    #[tactic(auto, using(avr_macro_lines::proofs::Needed::lacks_by_need))]
+    #[tactic(auto, using(crate::proofs::Needed::lacks_by_need))]
     fn lacks_one(&self, count: usize) -> bool
         ensures { result ≡ (nat_lt 10 count || any_lacks count self.now.text.value.lines) }
     {
@@ -244,7 +244,7 @@ impl Settled {
     ghost use Rattle.avr_macro.specs.Views.{CallsBody};
 
     /// The lines in a call.
-    #[tactic(auto, using(avr_macro_lines::proofs::Settled::lacks_none, avr_macro_lines::proofs::Settled::lines_stay))]
+    #[tactic(auto, using(crate::proofs::Settled::lacks_none, crate::proofs::Settled::lines_stay))]
     fn call(&self, substitution: Substitution) -> Result<Called, MacroWhy>
         ensures { CallsBody result substitution.arguments substitution.call
             (slice_range self.now.lines.body.value self.now.lines.start self.now.lines.end) }
@@ -312,7 +312,7 @@ impl Macro {
 }
 
 /// Whether no argument of a call has an `@`. Where lines are no call's, this isn't so.
-#[tactic(auto, using(avr_macro_lines::proofs::Slices::whole_body))]
+#[tactic(auto, using(crate::proofs::Slices::whole_body))]
 fn puts_no_at(substitution: &Option<Substitution>) -> bool
     ensures { result ≡ puts_plain substitution.now }
 {
@@ -395,7 +395,7 @@ impl Body {
     }
 
     /// Some of the lines: those from a place to before another.
-    #[tactic(auto, using(avr_macro_lines::proofs::Slices::next_line))]
+    #[tactic(auto, using(crate::proofs::Slices::next_line))]
     fn copied(&self, alloc: Global, start: usize, end: usize) -> Result<Lines, AllocError>
         requires order { start ≤ end }
         requires bound { end ≤ length self.now }

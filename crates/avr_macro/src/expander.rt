@@ -5,12 +5,12 @@ ghost use Rattle.std.specs.Prelude.{IsSome, OnOk, length, nat_lt, slice_index_or
 ghost use Rattle.std.specs.Bool.{OnFalse};
 ghost use Rattle.std.specs.FinMap as finmap;
 ghost use Rattle.std.specs.Option.{option_map};
-ghost use Rattle.avr_macro_lines.specs.Arguments.{arguments_of as arguments_of_line};
-ghost use Rattle.avr_macro_lines.specs.Blocks.{if_else as if_else_in};
+ghost use Rattle.avr_macro.specs.Arguments.{arguments_of as arguments_of_line};
+ghost use Rattle.avr_macro.specs.Blocks.{if_else as if_else_in};
 ghost use Rattle.avr_macro.specs.Calls.{CallsMacro};
 ghost use Rattle.avr_macro.specs.Macros.{seen_macro};
-ghost use Rattle.avr_macro_lines.specs.Directives.{after_first_word as after_first_word_in};
-ghost use Rattle.avr_macro_lines.specs.Directives.{first_word as first_word_of, operands_of as operands_of_line};
+ghost use Rattle.avr_macro.specs.Directives.{after_first_word as after_first_word_in};
+ghost use Rattle.avr_macro.specs.Directives.{first_word as first_word_of, operands_of as operands_of_line};
 ghost use Rattle.avr_macro.specs.Moves.{body_of as body_of_word, call as call_state, chosen_part as chosen_part_of};
 ghost use Rattle.avr_macro.specs.Moves.{enter as enter_move, file_name as file_name_of, goes, if_move as if_move_of};
 ghost use Rattle.avr_macro.specs.Moves.{if_valued, include_move as include_move_of, included, is_full as is_full_state};
@@ -22,21 +22,21 @@ ghost use Rattle.avr_macro.specs.Moves.{repeat_move as repeat_move_of, repeat_ti
 ghost use Rattle.avr_macro.specs.Moves.{repeated as repeated_level, turn_end as turn_end_move, turned};
 ghost use Rattle.avr_macro.specs.Moves.{two_parts as two_parts_of, with_setting, word_move};
 ghost use Rattle.avr_macro.specs.States.{first_state, inside as inside_level, passed as passed_level};
-ghost use Rattle.avr_macro_lines.specs.Values.{setting_of as setting_of_text};
-ghost use Rattle.avr_macro_lines.specs.declared.directives.Word.TheVariants as words;
+ghost use Rattle.avr_macro.specs.Values.{setting_of as setting_of_text};
+ghost use Rattle.avr_macro.specs.declared.directives.Word.TheVariants as words;
 ghost use Rattle.avr_macro.specs.Views.{IsAt, seen_called, seen_frame, seen_frames};
-ghost use Rattle.avr_macro_lines.specs.Views.{seen_setting};
+ghost use Rattle.avr_macro.specs.LineViews.{seen_setting};
 
 use crate::bodies::{Call, Called, Macro, share};
 use crate::errors::MacroWhy;
 use crate::frames::{BLOCK_LIMIT, Frame, INCLUDE_LIMIT};
 use crate::macros::Macros;
 use crate::origin::Origin;
-use avr_asm::predefined;
-use avr_macro_lines::{
+use crate::{
     Closing, Setting, Substitution, Word, after_first_word, arguments_of, directive_of, first_word,
     is_bare, macro_name, operands_of, setting_of, text_value, trimmed,
 };
+use avr_asm::predefined;
 use avr_text::Symbols;
 use std::alloc::{AllocError, Global};
 

@@ -6,7 +6,7 @@ ghost use Rattle.avr_macro.specs.States.{passed as passed_level, place_after as 
 
 use crate::bodies::{Body, Called, Macro, share};
 use crate::origin::Origin;
-use avr_macro_lines::{Closing, closing_after, end_of, lines_of};
+use crate::{Closing, closing_after, end_of, lines_of};
 use std::alloc::{AllocError, Global};
 use std::rc::Rc;
 
@@ -63,9 +63,9 @@ fn place_after(blocks: u8, n: usize, origin: Origin) -> Origin
 
 impl Frame {
     ghost use Rattle.std.specs.Option.{option_map};
-    ghost use Rattle.avr_macro_lines.specs.declared.directives.Word.TheVariants as words;
-    ghost use Rattle.avr_macro_lines.specs.Blocks.{if_else as if_else_in, if_end as if_end_in};
-    ghost use Rattle.avr_macro_lines.specs.Blocks.{macro_end as macro_end_in, repeat_end as repeat_end_in};
+    ghost use Rattle.avr_macro.specs.declared.directives.Word.TheVariants as words;
+    ghost use Rattle.avr_macro.specs.Blocks.{if_else as if_else_in, if_end as if_end_in};
+    ghost use Rattle.avr_macro.specs.Blocks.{macro_end as macro_end_in, repeat_end as repeat_end_in};
     ghost use Rattle.avr_macro.specs.Macros.{seen_macro};
     ghost use Rattle.avr_macro.specs.Moves.{closed_by as closed_by_line, later, part};
     ghost use Rattle.avr_macro.specs.Views.{IsAt, seen_called, seen_frame};
@@ -130,7 +130,7 @@ impl Frame {
     }
 
     /// The macro whose body are so many of the lines after the next one.
-    #[tactic(auto, using(avr_macro_lines::proofs::Slices::first_part))]
+    #[tactic(auto, using(crate::proofs::Slices::first_part))]
     pub fn body_after(&self, alloc: Global, n: usize) -> Result<Macro, AllocError>
         requires { self.now.at + (n + 2) ≤ self.now.end }
         ensures { IfOk result (λ body. seen_macro body ≡ part (seen_frame self.now) 0 n) }
@@ -140,7 +140,7 @@ impl Frame {
     }
 
     /// Whether the line after the next one and so many more has no words that it may not have.
-    #[tactic(auto, using(avr_macro_lines::proofs::Slices::later_line))]
+    #[tactic(auto, using(crate::proofs::Slices::later_line))]
     pub fn closed_by(&self, n: usize) -> bool
         requires { self.now.at + (n + 2) ≤ self.now.end }
         ensures { result ≡ closed_by_line (later (seen_frame self.now)) n }

@@ -14,3 +14,6 @@ pub mod SpansFound
 pub mod SpelledCut
 pub mod TreesAlone
 pub mod FaultsCut
+pub mod FieldLemmas
+pub mod WordLemmas
+pub mod RowTold

@@ -9,3 +9,9 @@ pub mod Operators
 pub mod Reading
 pub mod Expressions
 pub mod Spans
+pub mod Faults
+pub mod Fields
+pub mod Instructions
+pub mod Mnemonics
+pub mod Operands
+pub mod WhyNames

@@ -6,7 +6,7 @@ use Rattle.avr_text.specs.declared.pieces.Piece.{Piece}
 use Rattle.avr_text.specs.declared.pieces.Piece.TheVariants as piece
 use Rattle.avr_text.specs.declared.tokens.TokenKind.TheVariants as token
 use Rattle.avr_text.specs.declared.tokens.LexWhy.TheVariants as lex_why
-use Rattle.uz_text.specs.Lines.{is_blank}
+use Rattle.uz_hex.specs.Lines.{is_blank}
 use Rattle.avr_text.specs.Characters.{is_digit, is_word, is_mark, goes_on_line}
 use Rattle.avr_text.specs.Numbers.{number_of}
 

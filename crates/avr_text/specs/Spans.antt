@@ -9,7 +9,7 @@ use Rattle.avr_text.specs.declared.tokens.Token.{Token}
 use Rattle.avr_text.specs.declared.tokens.LexWhy.{LexWhy}
 use Rattle.avr_text.specs.declared.tokens.LexWhy.TheVariants as lex_why
 use Rattle.avr_text.specs.declared.tokens.LexError.{LexError}
-use Rattle.uz_text.specs.Lines.{is_blank}
+use Rattle.uz_hex.specs.Lines.{is_blank}
 use Rattle.avr_text.specs.Characters.{is_digit, is_word, is_mark, goes_on_line}
 use Rattle.avr_text.specs.Numbers.{number_of}
 use Rattle.avr_text.specs.Tokens.{text_of}

@@ -3,11 +3,18 @@
 
 mod arithmetic;
 mod characters;
+mod errors;
+mod fields;
+mod instructions;
 mod laws;
 mod lexer;
+mod mnemonics;
 mod numbers;
+mod operand_laws;
+mod operands;
 mod operators;
 mod pieces;
+mod pointers;
 mod reader;
 mod symbols;
 mod tokens;
@@ -16,8 +23,13 @@ mod waiting;
 mod words;
 
 pub use characters::{begins_name, is_digit, is_word};
+pub use errors::AsmWhy;
 pub use laws::{expression_is_unique, tokens_are_exact, value_is_kept};
 pub use lexer::lex;
+pub use mnemonics::{Mnemonic, mnemonic_of};
+pub use operand_laws::name_gives_word_count;
+pub use operands::{Operands, both, expression, name_of, number, register_number};
+pub use pointers::{Pointer, find_pointer};
 pub use reader::text_of;
 pub use symbols::Symbols;
 pub use tokens::{LexError, LexWhy, Token, TokenKind};

@@ -9,7 +9,7 @@ ghost use Rattle.avr_text.specs.Pieces.{other_piece as other_piece_of, piece_at 
 use crate::characters::{goes_on_line, is_digit, is_mark, is_word};
 use crate::numbers::number_of;
 use crate::tokens::{LexWhy, TokenKind};
-use uz_text::is_blank;
+use uz_hex::is_blank;
 
 /// What stands at the front of a text, with its length in bytes.
 #[derive(Clone, Copy)]

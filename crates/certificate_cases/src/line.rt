@@ -5,10 +5,9 @@ ghost use Rattle.std.specs.Prelude.{◌≡◌, length};
 use arrayvec::ArrayVec;
 use uz_cert::{Cell, CertWhy, Head, Owner, Response, Span, Version};
 use uz_cert_lines::{
-    Said, cell_line, end_line, entry_line, event_line, fall_line, irq_line, kind_line, point_line,
-    rest_line, run_line, size_line, stack_line,
+    Said, Words, cell_line, end_line, entry_line, event_line, fall_line, irq_line, kind_line,
+    point_line, rest_line, run_line, size_line, stack_line,
 };
-use uz_cert_words::Words;
 
 /// A head with a cell of main from 0 to 9 and one of the handler from 0 to 38.
 fn make_head() -> Head

@@ -1,7 +1,7 @@
 //! A case: its files, and the faults that are planned.
 
+use crate::{Bench, Fail, fail_of};
 use anyhow::Result;
-use command_bench::{Bench, Fail, fail_of};
 use std::alloc::Global;
 use std::io::{self, Write};
 

@@ -23,13 +23,21 @@
 //! Other lines are left out.
 #![tactic(auto)]
 
+mod bench;
 mod case;
 mod changes;
 mod outside;
+mod running;
 mod tally;
+mod words;
 
 use anyhow::Result;
+use bench::Bench;
 use case::Case;
+use running::{Answer, run};
+use uz_shelf::{Fail, MemoryShelf};
+use uz_top::Status;
+use words::{fail_of, words_of};
 
 fn main(rt: HostRuntime) -> Result<()> {
     let alloc = rt.alloc();

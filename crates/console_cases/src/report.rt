@@ -2,8 +2,7 @@
 
 use anyhow::Result;
 use uz_console::Console;
-use uz_core::Why;
-use uz_machine::{Edge, EdgeKind};
+use uz_core::{Edge, EdgeKind, Why};
 
 /// Each edge on a line.
 pub(crate) fn print_edges(rt: &impl Print, edges: &[Edge]) -> Result<()> {

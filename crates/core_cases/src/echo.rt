@@ -3,8 +3,7 @@
 ghost use Rattle.std.specs.Prelude.{◌≡◌, []};
 
 use arrayvec::ArrayVec;
-use uz_core::Data;
-use uz_machine::HeldStore;
+use uz_core::{Data, HeldStore};
 
 /// A load gives the address and 51 times the sampling clock, modulo 256.
 #[derive(Drop)]

@@ -4,8 +4,7 @@ ghost use Rattle.std.specs.Prelude.{◌≡◌, [], length, IfOk};
 
 use arrayvec::ArrayVec;
 use std::alloc::{AllocError, Global};
-use uz_core::Data;
-use uz_machine::HeldStore;
+use uz_core::{Data, HeldStore};
 
 /// How many bytes the data space has (ATmega644 data sheet).
 const DATA_BYTES: usize = 4352;

@@ -5,8 +5,8 @@ ghost use Rattle.std.specs.Prelude.{◌≡◌, ◌<◌, ◌≤◌, []};
 use crate::case::Case;
 use crate::echo::Echo;
 use uz_core::Cpu;
+use uz_core::address::{IO_BASE, SPH, SPL, SREG};
 use uz_hex::Image;
-use uz_machine::address::{IO_BASE, SPH, SPL, SREG};
 
 /// Writes a word into the flash, at a word address.
 pub(crate) fn put(flash: &mut Image, at: u16, word: u16) {

@@ -3,8 +3,7 @@
 use crate::case::Case;
 use crate::echo::Echo;
 use anyhow::Result;
-use uz_core::{Cpu, Step, Why};
-use uz_machine::HeldStore;
+use uz_core::{Cpu, HeldStore, Step, Why};
 
 /// The step's answer.
 pub(crate) fn print_step(rt: &impl Print, step: Step) -> Result<()> {

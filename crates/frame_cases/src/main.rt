@@ -21,9 +21,9 @@ use playing::{advance, frame};
 use std::alloc::Global;
 use table_rows::Row;
 use uz_console::Response;
-use uz_frames::Play;
 use uz_hex::{Image, read_hex};
 use uz_pads::Pad;
+use uz_player::Play;
 
 /// The image of a text, where it is one.
 fn image_of(alloc: Global, text: &[u8]) -> Option<Image> {

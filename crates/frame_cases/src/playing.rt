@@ -1,8 +1,8 @@
 //! What a play gives, printed.
 
 use anyhow::Result;
-use uz_frames::{Frame, Play, Shown};
 use uz_pads::Pad;
+use uz_player::{Frame, Play, Shown};
 
 /// No turn begins at this clock or after it.
 const LAST: u64 = 1 << 62;

@@ -19,10 +19,11 @@ use crate::report::{tell_answer, tell_first_state, tell_reason};
 use anyhow::Result;
 use std::alloc::Global;
 use uz_cert::read_cert;
-use uz_cert_limits::well_formed;
 use uz_hex::Image;
 use uz_rules::{after, local};
-use uz_schedule::{Cert, Head, Instance, MOST_LINES, SCANLINE, Schedule, schedule_fits};
+use uz_schedule::{
+    Cert, Head, Instance, MOST_LINES, SCANLINE, Schedule, schedule_fits, well_formed,
+};
 
 /// What the table has said so far.
 #[derive(Drop)]

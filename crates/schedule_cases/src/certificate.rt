@@ -6,8 +6,7 @@ ghost use Rattle.uz_schedule.specs.WellFormed.{WellFormed};
 use crate::instance;
 use anyhow::Result;
 use table_rows::Row;
-use uz_cert_limits::well_formed;
-use uz_schedule::{Cert, Kind, Owner, Schedule, schedule_fits, tracks};
+use uz_schedule::{Cert, Kind, Owner, Schedule, schedule_fits, tracks, well_formed};
 
 /// The answer to a row that asks a certificate. Answers whether there is one, and the row does.
 pub(crate) fn tell(rt: HostRuntime, cert: &Option<Cert>, line: &str) -> Result<bool> {

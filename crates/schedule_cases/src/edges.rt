@@ -2,7 +2,7 @@
 
 use anyhow::Result;
 use table_rows::Row;
-use uz_machine::EdgeKind;
+use uz_core::EdgeKind;
 use uz_rules::event_of;
 
 /// The event of an edge of this kind, if it is one.

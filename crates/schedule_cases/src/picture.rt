@@ -1,7 +1,7 @@
 //! A list of edges with two broad lines, as a whole picture and edge by edge.
 
 use anyhow::Result;
-use uz_machine::{Edge, EdgeKind};
+use uz_core::{Edge, EdgeKind};
 use uz_scan::{Scan, Scanner, end_record, picture, row_record};
 
 macro_rules! edge {

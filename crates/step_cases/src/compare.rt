@@ -7,8 +7,8 @@ use crate::draw::{LINES, length_of};
 use crate::program::STACK;
 use arrayvec::ArrayVec;
 use uz_console::Console;
-use uz_machine::Edge;
-use uz_machine::address::{OCR1AH, OCR1AL, PORTB, SPH, SPL, SREG, TCNT1H, TCNT1L, TIFR1};
+use uz_core::Edge;
+use uz_core::address::{OCR1AH, OCR1AL, PORTB, SPH, SPL, SREG, TCNT1H, TCNT1L, TIFR1};
 use uz_rules::{event_of, inside};
 use uz_schedule::{Bit, EventKind, Head, Instance, Kind, Span, Val, Wide, tracks};
 

@@ -10,10 +10,10 @@ use crate::case::Case;
 use crate::writer::{CLEAR_MATCH, IJMP, PAUSE, Writer, set_word};
 use std::alloc::{AllocError, Global};
 use uz_console::{Console, Response, SaveState};
-use uz_hex::Image;
-use uz_machine::address::{
+use uz_core::address::{
     OCR1AH, OCR1AL, PORTB, PORTC, SPH, SPL, SREG, TCCR1B, TCNT1H, TCNT1L, TIMSK1,
 };
+use uz_hex::Image;
 use uz_schedule::Kind;
 
 /// How many cases an image holds.

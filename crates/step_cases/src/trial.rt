@@ -8,12 +8,10 @@ use crate::program::go_to;
 use arrayvec::ArrayVec;
 use avr_decode::decode;
 use uz_console::{Console, Turn};
-use uz_core::effect;
+use uz_core::{Edge, effect};
 use uz_hex::Image;
-use uz_machine::Edge;
-use uz_rules::{Fail, Next, after};
+use uz_rules::{Fail, Next, after, main_emits};
 use uz_schedule::{Head, Instance, Kind, MOST_LINES, SCANLINE, Schedule};
-use uz_transfer::main_emits;
 
 /// How a trial ends.
 #[derive(Clone, Copy, Debug)]

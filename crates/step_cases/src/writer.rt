@@ -1,7 +1,7 @@
 //! Writes the words of instructions one after another (encodings: AVR Instruction Set Manual). All but `load` use r16 alone.
 
+use uz_core::address::IO_BASE;
 use uz_hex::Image;
-use uz_machine::address::IO_BASE;
 
 /// IJMP.
 pub(crate) const IJMP: u16 = 0x9409;

@@ -15,8 +15,8 @@ ghost use Rattle.uz_schedule.specs.WellFormed.{WellFormed};
 use anyhow::Result;
 use std::io::{self, Write};
 use uz_cert::{CertError, read_cert};
+use uz_report::timing;
 use uz_schedule::Cert;
-use uz_timing::timing;
 
 /// Says what is wrong with a text that is no certificate.
 fn tell_fault(rt: HostRuntime, fault: CertError) -> Result<()> {

@@ -5,10 +5,10 @@ use Rattle.uz_schedule.specs.Ends.{Ends}
 use Rattle.uz_schedule.specs.Tracked.{tracks}
 use Rattle.uz_schedule.specs.declared.kinds.Kind.TheVariants.{Handler}
 use Rattle.uz_schedule.specs.declared.header.Cell.{Cell}
-use Rattle.uz_cert_words.specs.Why.{◌>>=◌}
-use Rattle.uz_cert_words.specs.Grammar.{Words, rest_of, next_as, fixed_of, number_of, choice_of, slope_of, end_of}
+use Rattle.uz_cert_lines.specs.Why.{◌>>=◌}
+use Rattle.uz_cert_lines.specs.Grammar.{Words, rest_of, next_as, fixed_of, number_of, choice_of, slope_of, end_of}
 use Rattle.uz_cert_lines.specs.Items.{first_facts, take_item, items_from, read_items}
-use Rattle.uz_cert_words.specs.Values.{span_of}
+use Rattle.uz_cert_lines.specs.Values.{span_of}
 use Rattle.uz_cert_lines.specs.Forms.{with_span, spans_of, LineForm, fixed, number, choice, slope, spans, items, finish, reads}
 use Rattle.uz_cert_lines.specs.declared.items.Shape.{Shape}
 use Rattle.uz_cert_lines.specs.declared.items.Facts.{Facts}

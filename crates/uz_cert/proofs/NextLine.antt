@@ -1,7 +1,7 @@
 -- The lines of a text that is read to its end, from the first to the last: each is spelled from what it says, and lacks line ends.
 use Rattle.std.proofs.Common.{◌≡◌, ℕ, ◌+◌, List, [], ◌∷◌, ◌++◌, refl, sym, ◌∙◌, ap, subst, append_assoc}
 use Rattle.std.specs.Prelude.{Option, Some, None}
-use Rattle.uz_text.proofs.Plain.{Lacks, EachLacks, lacks_nil}
+use Rattle.uz_hex.proofs.Plain.{Lacks, EachLacks, lacks_nil}
 use Rattle.uz_schedule.specs.declared.states.Entry.{Entry}
 use Rattle.uz_schedule.specs.declared.certificate.Cert.{Cert}
 use Rattle.uz_cert_lines.specs.declared.lines.Said.{Said}

@@ -22,7 +22,7 @@ use Rattle.uz_schedule.specs.declared.certificate.Cert.{Cert}
 use Rattle.uz_cert_writer.specs.Spelling.{line_of, cell_words, event_words, run_words, rest_words}
 use Rattle.uz_cert_writer.specs.Spelling.{entry_words, point_words, kinds_then}
 use Rattle.uz_cert_writer.specs.Spelling.{last_lines}
-use Rattle.uz_cert_words.specs.Why.{◌>>=◌}
+use Rattle.uz_cert_lines.specs.Why.{◌>>=◌}
 use Rattle.uz_cert_lines.specs.Forms.{reads}
 use Rattle.uz_cert_lines.specs.Lines.{IsLengthIn, IsPointIn}
 use Rattle.uz_cert_lines.specs.declared.lines.KindLine.{KindLine}

@@ -3,7 +3,7 @@ use Rattle.std.proofs.Common.{◌≡◌, ℕ, suc, ◌+◌, ◌≤◌, Bool, tru
 use Rattle.std.specs.Prelude.{Option, Some, None, IsSome, ⊤}
 use Rattle.std.specs.Borrow.{Bor}
 use Rattle.std.specs.List.{onto_first}
-use Rattle.uz_text.specs.Cutting.{cut_at, cut_behind}
+use Rattle.uz_hex.specs.Cutting.{cut_at, cut_behind}
 use Rattle.uz_cert.specs.Reading.{is_more, pieces_left, pieces_of}
 
 -- the pieces of a text that is cut so

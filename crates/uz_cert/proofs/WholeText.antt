@@ -7,7 +7,7 @@ use Rattle.std.specs.List.{join_with_byte}
 use Rattle.std.proofs.lemmas.Slice.Eq.{bytes_eq-Decides}
 use Rattle.std.proofs.lemmas.List.Elements.{All-weaker}
 use Rattle.std.proofs.lemmas.List.Splits.{join_with_byte-slice_split}
-use Rattle.uz_text.proofs.Plain.{Lacks, lacks_nil, lacks_cons, split_join}
+use Rattle.uz_hex.proofs.Plain.{Lacks, lacks_nil, lacks_cons, split_join}
 use Rattle.uz_schedule.specs.WellFormed.{StackFits, CellFits, WellFormed}
 use Rattle.uz_schedule.specs.declared.header.Head.{Head}
 use Rattle.uz_schedule.specs.declared.certificate.Cert.{Cert}
@@ -15,7 +15,7 @@ use Rattle.uz_cert_writer.specs.Spelling.{kinds_then, runs_of, lines_of_certific
 use Rattle.uz_cert_lines.specs.declared.lines.Sizes.{Sizes}
 use Rattle.uz_cert_lines.specs.declared.lines.StackLine.{StackLine}
 use Rattle.uz_cert_lines.specs.declared.lines.Said.TheVariants as said
-use Rattle.uz_cert_words.specs.declared.why.CertWhy.TheVariants as why
+use Rattle.uz_cert_lines.specs.declared.why.CertWhy.TheVariants as why
 use Rattle.uz_cert.specs.Drafts.{first_draft}
 use Rattle.uz_cert_lines.specs.Lines.{head_line, SizesFit}
 use Rattle.uz_cert_lines.specs.declared.version.Version.{Version}

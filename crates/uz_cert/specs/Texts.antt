@@ -7,8 +7,8 @@ use Rattle.uz_cert_lines.specs.FirstFault.{Allows, HasFirstFault}
 use Rattle.uz_cert_lines.specs.Lines.{head_line, IsLengthIn, IsPointIn}
 use Rattle.uz_cert_lines.specs.declared.lines.Said.{Said}
 use Rattle.uz_cert_lines.specs.declared.version.Version.{Version}
-use Rattle.uz_cert_words.specs.declared.why.CertWhy.{CertWhy}
-use Rattle.uz_cert_words.specs.declared.why.CertWhy.TheVariants as why
+use Rattle.uz_cert_lines.specs.declared.why.CertWhy.{CertWhy}
+use Rattle.uz_cert_lines.specs.declared.why.CertWhy.TheVariants as why
 use Rattle.uz_cert.specs.Drafts.{first_draft, due_of, form_of, draft_after}
 use Rattle.uz_cert.specs.Reading.{pieces_of, is_more, words_in, cert_from}
 use Rattle.uz_cert.specs.declared.due.Due.{Due}

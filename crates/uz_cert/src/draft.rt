@@ -16,10 +16,10 @@ use arrayvec::ArrayVec;
 use std::alloc::{AllocError, Global};
 use std::mem;
 use uz_cert_lines::{
-    KindLine, Run, Said, Sizes, StackLine, Version, cell_line, end_line, entry_line, event_line,
-    fall_line, irq_line, kind_line, point_line, rest_line, run_line, size_line, stack_line,
+    CertWhy, KindLine, Run, Said, Sizes, StackLine, Version, Words, cell_line, end_line,
+    entry_line, event_line, fall_line, irq_line, kind_line, point_line, rest_line, run_line,
+    size_line, stack_line,
 };
-use uz_cert_words::{CertWhy, Words};
 use uz_schedule::{
     Cell, Entry, Event, Head, LineEvents, Point, Response, Rest, SCANLINE, Sequence,
 };

@@ -14,11 +14,9 @@ pub use due::Due;
 pub use errors::CertError;
 pub use reading::{read_cert, read_cert_1, text_or_fault};
 pub use text_laws::text_is_unique;
-pub use uz_cert_limits::well_formed;
-pub use uz_cert_lines::Version;
-pub use uz_cert_words::CertWhy;
+pub use uz_cert_lines::{CertWhy, Version};
 pub use uz_cert_writer::write_cert;
 pub use uz_schedule::{
     Bit, Cell, Cert, Entry, Event, EventKind, Fact, Head, Instance, Kind, LineEvents, Owner,
-    PairFact, Point, Response, Rest, Schedule, Sequence, Span, Val, Wide, hull,
+    PairFact, Point, Response, Rest, Schedule, Sequence, Span, Val, Wide, hull, well_formed,
 };

@@ -1,7 +1,7 @@
 //! What a line says where it is due.
 
 ghost use Rattle.std.specs.Prelude.{◌≡◌, Some, Ok};
-ghost use Rattle.uz_cert_words.specs.Grammar.{Words};
+ghost use Rattle.uz_cert_lines.specs.Grammar.{Words};
 ghost use Rattle.uz_cert_lines.specs.Forms.{reads};
 ghost use Rattle.uz_cert_lines.specs.declared.lines.Said.{Said};
 ghost use Rattle.uz_cert_laws.specs.Said.{line};

@@ -7,7 +7,7 @@ ghost use Rattle.uz_cert.specs.Reading.{cert_with as cert_with_entry, is_more, p
 ghost use Rattle.uz_cert.specs.Drafts.{first_draft};
 ghost use Rattle.uz_cert.specs.Texts.{IsCertificateText, IsFirstFault, IsOfVersion};
 ghost use Rattle.uz_schedule.specs.declared.certificate.Cert.{Cert as TheCert};
-ghost use Rattle.uz_cert_words.specs.declared.why.CertWhy.{CertWhy};
+ghost use Rattle.uz_cert_lines.specs.declared.why.CertWhy.{CertWhy};
 ghost use Rattle.uz_cert_lines.specs.declared.version.Version.{Version as TheVersion};
 ghost use Rattle.uz_cert_lines.specs.declared.version.Version.TheVariants.{First, Second};
 ghost use Rattle.uz_schedule.specs.Schedule.{scanline};
@@ -16,8 +16,7 @@ use crate::draft::Draft;
 use crate::errors::CertError;
 use crate::line_laws::said_lines;
 use std::alloc::Global;
-use uz_cert_lines::{Version, line_or_fault};
-use uz_cert_words::CertWhy;
+use uz_cert_lines::{CertWhy, Version, line_or_fault};
 use uz_schedule::{Cert, Schedule};
 
 /// The first piece of a text, and what follows its LF.
@@ -25,7 +24,7 @@ fn cut_line(text: &[u8]) -> (&[u8], Option<&[u8]>)
     ensures pieces { pieces_of text.now ≡ result.0.now ∷ pieces_left result.1 }
     ensures fewer { bytes_left result.1 ≤ length text.now }
 {
-    match uz_text::cut(text, b'\n') {
+    match uz_hex::cut(text, b'\n') {
         Some((line, rest)) => (line, Some(rest)),
         None => (text, None),
     }

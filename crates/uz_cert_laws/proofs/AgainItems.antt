@@ -18,16 +18,16 @@ use Rattle.uz_schedule.specs.declared.facts.PairFact.TheVariants.{Any as AnyPair
 use Rattle.uz_schedule.specs.declared.facts.PairFact.TheVariants.{Loop as LoopPair}
 use Rattle.uz_schedule.specs.declared.facts.Bit.{Bit}
 use Rattle.uz_schedule.specs.declared.facts.Bit.TheVariants.{Zero, One, Free, Old as OldBit}
-use Rattle.uz_cert_words.specs.Values.{raw_of, range, one_number}
+use Rattle.uz_cert_lines.specs.Values.{raw_of, range, one_number}
 use Rattle.uz_cert_lines.specs.Defaults.{is_default, is_any_pair, is_default_top, is_default_temp}
 use Rattle.uz_cert_lines.specs.Items.{first_facts, is_handler, bytes_forms, pair_forms, tracked_count}
-use Rattle.uz_cert_words.specs.FlagNames.{names_c_or_z, any_names}
+use Rattle.uz_cert_lines.specs.FlagNames.{names_c_or_z, any_names}
 use Rattle.uz_cert_lines.specs.Items.{tracked_before, is_flag_z, take_item, items_from, read_items}
-use Rattle.uz_cert_words.specs.declared.values.Raw.{Raw}
-use Rattle.uz_cert_words.specs.declared.values.Raw.TheVariants as raw
+use Rattle.uz_cert_lines.specs.declared.values.Raw.{Raw}
+use Rattle.uz_cert_lines.specs.declared.values.Raw.TheVariants as raw
 use Rattle.uz_cert_lines.specs.declared.items.Shape.{Shape}
 use Rattle.uz_cert_lines.specs.declared.items.Facts.{Facts}
-use Rattle.uz_cert_words.specs.declared.why.CertWhy.TheVariants as why
+use Rattle.uz_cert_lines.specs.declared.why.CertWhy.TheVariants as why
 use Rattle.uz_cert_writer.specs.Spelling.{numbers_from, register_item, pair_item, flag_item}
 use Rattle.uz_cert_writer.specs.Spelling.{options, item, unless, range_word, fact_word, pair_word, flag_word, pair_items, flag_items, slot_items}
 use Rattle.uz_cert_writer.specs.Spelling.{cell_items, top_items, temp_items, successor_items}

@@ -17,12 +17,12 @@ use Rattle.uz_schedule.specs.declared.facts.Fact.{Fact}
 use Rattle.uz_schedule.specs.declared.facts.PairFact.{PairFact}
 use Rattle.uz_schedule.specs.declared.facts.PairFact.TheVariants.{Any as AnyPair}
 use Rattle.uz_schedule.specs.declared.states.Entry.{Entry}
-use Rattle.uz_cert_words.specs.Grammar.{Words, choice_of}
+use Rattle.uz_cert_lines.specs.Grammar.{Words, choice_of}
 use Rattle.uz_cert_lines.specs.Defaults.{range_fact}
 use Rattle.uz_cert_lines.specs.Items.{is_handler, bytes_forms}
 use Rattle.uz_cert_lines.specs.Forms.{LineForm, number, items, reads}
 use Rattle.uz_cert_lines.specs.Lines.{within, one_of, none_in_main, shape_of, span_of_fact, entry_of, entry_kind, entry_form}
-use Rattle.uz_cert_words.specs.declared.values.FactForms.{FactForms}
+use Rattle.uz_cert_lines.specs.declared.values.FactForms.{FactForms}
 use Rattle.uz_cert_lines.specs.declared.items.Facts.{Facts}
 use Rattle.uz_cert_lines.specs.declared.lines.Said.{Said}
 use Rattle.uz_cert_lines.specs.declared.lines.Said.TheVariants as said

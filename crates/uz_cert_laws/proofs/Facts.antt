@@ -12,14 +12,14 @@ use Rattle.uz_schedule.specs.declared.facts.PairFact.TheVariants.{Any as AnyPair
 use Rattle.uz_schedule.specs.declared.facts.PairFact.TheVariants.{Loop as LoopPair}
 use Rattle.uz_schedule.specs.declared.facts.Bit.{Bit}
 use Rattle.uz_schedule.specs.declared.facts.Bit.TheVariants.{Zero, One, Free, Old as OldBit}
-use Rattle.uz_cert_words.specs.Why.{◌>>=◌}
-use Rattle.uz_cert_words.specs.Values.{range, raw_of, is_ordered, ends, fact_of, pair_of, ends_of, bit_of}
-use Rattle.uz_cert_words.specs.Values.{span_forms, span_of}
+use Rattle.uz_cert_lines.specs.Why.{◌>>=◌}
+use Rattle.uz_cert_lines.specs.Values.{range, raw_of, is_ordered, ends, fact_of, pair_of, ends_of, bit_of}
+use Rattle.uz_cert_lines.specs.Values.{span_forms, span_of}
 use Rattle.uz_cert_lines.specs.Items.{temp_forms}
-use Rattle.uz_cert_words.specs.declared.values.FactForms.{FactForms}
-use Rattle.uz_cert_words.specs.declared.values.Raw.{Raw}
-use Rattle.uz_cert_words.specs.declared.values.Raw.TheVariants as raw
-use Rattle.uz_cert_words.specs.declared.why.CertWhy.TheVariants as why
+use Rattle.uz_cert_lines.specs.declared.values.FactForms.{FactForms}
+use Rattle.uz_cert_lines.specs.declared.values.Raw.{Raw}
+use Rattle.uz_cert_lines.specs.declared.values.Raw.TheVariants as raw
+use Rattle.uz_cert_lines.specs.declared.why.CertWhy.TheVariants as why
 use Rattle.uz_cert_writer.specs.Spelling.{range_word, ends_word, fact_word, pair_word, flag_word}
 use Rattle.uz_cert_laws.proofs.Tests.{tested, and_true, both_true, and_false, not_true, fine, fine_is, fault_not, passed, so, else_so, bind_ok}
 use Rattle.uz_cert_laws.proofs.Tests.{then, le_is, is_le, lt_is, is_lt, number_is, number_not, same_number, word_is}

@@ -20,7 +20,7 @@ use Rattle.uz_schedule.specs.declared.facts.Bit.TheVariants.{Zero, One, Free, Ol
 use Rattle.uz_cert_lines.specs.Defaults.{range_fact}
 use Rattle.uz_cert_lines.specs.Items.{is_handler, bytes_forms, pair_forms}
 use Rattle.uz_cert_lines.specs.Lines.{none_in_main, span_of_fact}
-use Rattle.uz_cert_words.specs.declared.values.FactForms.{FactForms}
+use Rattle.uz_cert_lines.specs.declared.values.FactForms.{FactForms}
 use Rattle.uz_cert_lines.specs.declared.items.Shape.{Shape}
 use Rattle.uz_cert_laws.proofs.Tests.{and_true, both_true, true_not, le_is, is_le, else_so, number_is, not_le}
 use Rattle.uz_cert_laws.proofs.Facts.{FactIn, PairIn, BitIn, part_from, part_not_whole, whole_ends}

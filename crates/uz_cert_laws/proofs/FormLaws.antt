@@ -3,10 +3,10 @@ use Rattle.std.proofs.Common.{◌≡◌, ℕ, ◌≤◌, ◌<◌, ◌^◌, ℤ, 
 use Rattle.std.specs.Prelude.{⊤, All, Result, Ok}
 use Rattle.uz_schedule.specs.Ends.{Ends}
 use Rattle.uz_schedule.specs.WellFormed.{RangeFits, magnitude, spans_fit}
-use Rattle.uz_cert_words.specs.Why.{◌>>=◌}
-use Rattle.uz_cert_words.specs.Grammar.{Words, rest_of, next_as, fixed_of, number_of, choice_of, slope_of}
-use Rattle.uz_cert_words.specs.declared.why.CertWhy.{CertWhy}
-use Rattle.uz_cert_words.specs.declared.why.CertWhy.TheVariants as why
+use Rattle.uz_cert_lines.specs.Why.{◌>>=◌}
+use Rattle.uz_cert_lines.specs.Grammar.{Words, rest_of, next_as, fixed_of, number_of, choice_of, slope_of}
+use Rattle.uz_cert_lines.specs.declared.why.CertWhy.{CertWhy}
+use Rattle.uz_cert_lines.specs.declared.why.CertWhy.TheVariants as why
 use Rattle.uz_cert_lines.specs.Forms.{LineForm, fixed, number, choice, slope, spans, items, finish, reads, spans_of}
 use Rattle.uz_cert_lines.specs.Items.{read_items}
 use Rattle.uz_cert_lines.specs.declared.items.Facts.{Facts}
@@ -19,7 +19,7 @@ use Rattle.uz_cert_laws.proofs.Numbers.{IsAsked, number_so, number_only, slope_s
 use Rattle.uz_cert_laws.proofs.OnlyItems.{ShapeFits, items_only}
 use Rattle.uz_cert_laws.proofs.AgainItems.{FactsFit, items_again}
 use Rattle.uz_cert_laws.proofs.Plains.{plain_read, plain_at, plain_signed, plain_spans, plain_items}
-use Rattle.uz_text.proofs.Plain.{plain, EachPlain, each_plain_append}
+use Rattle.uz_hex.proofs.Plain.{plain, EachPlain, each_plain_append}
 use Rattle.uz_cert_laws.proofs.Spans.{Bytes, own, spans_read, spans_gone}
 use Rattle.uz_cert_laws.proofs.Steps.{words_in, line_same, fixed_word, fixed_is, choice_word, with_front}
 

@@ -10,8 +10,8 @@ use Rattle.uz_schedule.specs.declared.kinds.Owner.{Owner}
 use Rattle.uz_schedule.specs.declared.kinds.Owner.TheVariants.{Main as MainCell, Handler as HandlerCell}
 use Rattle.uz_schedule.specs.declared.header.Head.{Head}
 use Rattle.uz_schedule.specs.declared.header.Cell.{Cell}
-use Rattle.uz_cert_words.specs.Grammar.{Words, choice_of}
-use Rattle.uz_cert_words.specs.Values.{ends}
+use Rattle.uz_cert_lines.specs.Grammar.{Words, choice_of}
+use Rattle.uz_cert_lines.specs.Values.{ends}
 use Rattle.uz_cert_lines.specs.Forms.{reads}
 use Rattle.uz_cert_lines.specs.Lines.{least_of, SizesFit, size_form, irq_form, response_of, stack_form, owner_of, off_stack}
 use Rattle.uz_cert_lines.specs.Lines.{cell_form}

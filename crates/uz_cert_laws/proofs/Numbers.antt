@@ -4,16 +4,16 @@ use Rattle.std.proofs.Common.{eqb, leb, ltb, List, [], ◌∷◌, length, decima
 use Rattle.std.specs.Prelude.{Option, Some, None, Ok, Err}
 use Rattle.std.proofs.lemmas.Bool.Decides.{nat_tests}
 use Rattle.std.proofs.lemmas.Fmt.{decimal_nonempty}
-use Rattle.uz_text.specs.Numbers.{all_digits, is_numeral, number_below, number_within}
-use Rattle.uz_text.specs.Cutting.{cut_at, cut_behind}
-use Rattle.uz_text.proofs.NumberWords.{number_read, number_again, within_read, within_again, digits_of_decimal}
-use Rattle.uz_text.proofs.Plain.{Lacks, lacks_nil, lacks_cons}
+use Rattle.uz_hex.specs.Numbers.{all_digits, is_numeral, number_below, number_within}
+use Rattle.uz_hex.specs.Cutting.{cut_at, cut_behind}
+use Rattle.uz_hex.proofs.NumberWords.{number_read, number_again, within_read, within_again, digits_of_decimal}
+use Rattle.uz_hex.proofs.Plain.{Lacks, lacks_nil, lacks_cons}
 use Rattle.std.proofs.lemmas.List.Elements.{All-head, All-tail}
 use Rattle.uz_schedule.specs.WellFormed.{magnitude}
-use Rattle.uz_cert_words.specs.Grammar.{asked, number_or, number_of, signed_or, unsigned_or, slope_of}
-use Rattle.uz_cert_words.specs.Values.{digits, one_or, one_number, both, two_numbers}
-use Rattle.uz_cert_words.specs.declared.words.Asked.{Asked}
-use Rattle.uz_cert_words.specs.declared.why.CertWhy.TheVariants as why
+use Rattle.uz_cert_lines.specs.Grammar.{asked, number_or, number_of, signed_or, unsigned_or, slope_of}
+use Rattle.uz_cert_lines.specs.Values.{digits, one_or, one_number, both, two_numbers}
+use Rattle.uz_cert_lines.specs.declared.words.Asked.{Asked}
+use Rattle.uz_cert_lines.specs.declared.why.CertWhy.TheVariants as why
 use Rattle.uz_cert_writer.specs.Spelling.{signed_word}
 use Rattle.uz_cert_laws.proofs.Tests.{and_true, both_true, and_false, not_true, fine_is, passed, failed, so, else_so, le_is, is_le, is_lt}
 use Rattle.uz_cert_laws.proofs.Tests.{not_le, not_lt, number_not, not_number, number_is}

@@ -17,14 +17,14 @@ use Rattle.uz_schedule.specs.declared.facts.PairFact.{PairFact}
 use Rattle.uz_schedule.specs.declared.facts.PairFact.TheVariants.{Any as AnyPair, Between as BetweenPair, Line as LinePair}
 use Rattle.uz_schedule.specs.declared.facts.PairFact.TheVariants.{Loop as LoopPair}
 use Rattle.uz_schedule.specs.declared.facts.Bit.{Bit}
-use Rattle.uz_cert_words.specs.Grammar.{Words}
-use Rattle.uz_cert_words.specs.FlagNames.{names_c_or_z, any_names}
+use Rattle.uz_cert_lines.specs.Grammar.{Words}
+use Rattle.uz_cert_lines.specs.FlagNames.{names_c_or_z, any_names}
 use Rattle.uz_cert_lines.specs.Items.{first_facts, default_flag, is_handler, bytes_forms, pair_forms}
 use Rattle.uz_cert_lines.specs.Items.{is_flag_z, tracked_count, take_item, items_from, read_items}
-use Rattle.uz_cert_words.specs.declared.values.FactForms.{FactForms}
+use Rattle.uz_cert_lines.specs.declared.values.FactForms.{FactForms}
 use Rattle.uz_cert_lines.specs.declared.items.Shape.{Shape}
 use Rattle.uz_cert_lines.specs.declared.items.Facts.{Facts}
-use Rattle.uz_cert_words.specs.declared.why.CertWhy.TheVariants as why
+use Rattle.uz_cert_lines.specs.declared.why.CertWhy.TheVariants as why
 use Rattle.uz_cert_writer.specs.Spelling.{numbers_from}
 use Rattle.uz_cert_writer.specs.Spelling.{range_word, fact_word, pair_word, flag_word}
 use Rattle.uz_cert_laws.proofs.Tests.{and_true, or_false, fine_is, fault_not, true_not, bind_ok, number_is, lt_is}

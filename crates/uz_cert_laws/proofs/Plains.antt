@@ -3,8 +3,8 @@ use Rattle.std.proofs.Common.{◌≡◌, ◌≢◌, ℕ, zero, suc, ◌+◌, ◌
 use Rattle.std.proofs.Common.{map, All, codes, decimal, lit≤, refl, ◌∙◌, arith}
 use Rattle.std.specs.Prelude.{⊤, ℤ, pos, negsuc}
 use Rattle.std.proofs.lemmas.List.Elements.{All-head, All-tail, All-weaker}
-use Rattle.uz_text.proofs.Plain.{plain, EachPlain, Lacks, each_lacks, join_lacks, plain_append, plain_decimal}
-use Rattle.uz_text.proofs.Plain.{each_plain_append}
+use Rattle.uz_hex.proofs.Plain.{plain, EachPlain, Lacks, each_lacks, join_lacks, plain_append, plain_decimal}
+use Rattle.uz_hex.proofs.Plain.{each_plain_append}
 use Rattle.uz_schedule.specs.Ends.{Ends}
 use Rattle.uz_schedule.specs.Tracked.{tracks}
 use Rattle.uz_schedule.specs.Limits.{is_top}
@@ -20,11 +20,11 @@ use Rattle.uz_schedule.specs.declared.facts.Bit.{Bit}
 use Rattle.uz_schedule.specs.declared.facts.Bit.TheVariants as bit
 use Rattle.uz_schedule.specs.declared.header.Cell.{Cell}
 use Rattle.uz_cert_lines.specs.Defaults.{is_default, is_any_pair, is_range, is_default_top, is_default_temp}
-use Rattle.uz_cert_words.specs.Grammar.{words_of}
+use Rattle.uz_cert_lines.specs.Grammar.{words_of}
 use Rattle.uz_cert_writer.specs.Spelling.{line_of, range_word, ends_word, slope_word, fact_word, pair_word, flag_word, item, unless}
 use Rattle.uz_cert_writer.specs.Spelling.{register_items, pair_items, flag_items, slot_items, cell_items, top_items, temp_items, successor_items}
 use Rattle.uz_cert_writer.specs.Spelling.{signed_word}
-use Rattle.uz_cert_words.specs.declared.values.FactForms.{FactForms}
+use Rattle.uz_cert_lines.specs.declared.values.FactForms.{FactForms}
 use Rattle.uz_cert_lines.specs.Items.{bytes_forms, pair_forms}
 use Rattle.uz_cert_lines.specs.declared.items.Shape.{Shape}
 use Rattle.uz_cert_lines.specs.declared.items.Facts.{Facts}

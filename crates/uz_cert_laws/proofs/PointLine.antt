@@ -16,7 +16,7 @@ use Rattle.uz_schedule.specs.declared.kinds.Kind.TheVariants.{Main, Handler, Alo
 use Rattle.uz_schedule.specs.declared.header.Head.{Head}
 use Rattle.uz_schedule.specs.declared.facts.PairFact.TheVariants.{Any as AnyPair}
 use Rattle.uz_schedule.specs.declared.states.Point.{Point}
-use Rattle.uz_cert_words.specs.Grammar.{Words, choice_of}
+use Rattle.uz_cert_lines.specs.Grammar.{Words, choice_of}
 use Rattle.uz_cert_lines.specs.Items.{is_handler, bytes_forms, pair_forms}
 use Rattle.uz_cert_lines.specs.Forms.{reads}
 use Rattle.uz_cert_lines.specs.Lines.{none_in_main, is_timed, point_shape, IsPointIn, point_kind, pending_limit, count_limit, point_of, point_after, point_form}

@@ -6,7 +6,7 @@ use Rattle.uz_schedule.specs.Limits.{clock_limit}
 use Rattle.uz_schedule.specs.WellFormed.{RestFits}
 use Rattle.uz_schedule.specs.declared.header.Head.{Head}
 use Rattle.uz_schedule.specs.declared.states.Rest.{Rest}
-use Rattle.uz_cert_words.specs.Grammar.{Words}
+use Rattle.uz_cert_lines.specs.Grammar.{Words}
 use Rattle.uz_cert_lines.specs.Forms.{reads}
 use Rattle.uz_cert_lines.specs.Lines.{rest_form}
 use Rattle.uz_cert_lines.specs.declared.lines.Said.{Said}

@@ -7,7 +7,7 @@ use Rattle.uz_schedule.specs.Schedule.{scanline}
 use Rattle.uz_schedule.specs.declared.lines.Event.{Event}
 use Rattle.uz_schedule.specs.declared.lines.EventKind.{EventKind}
 use Rattle.uz_schedule.specs.declared.lines.EventKind.TheVariants.{Sync, Pixel, Sound, Leave}
-use Rattle.uz_cert_words.specs.Grammar.{Words, choice_of}
+use Rattle.uz_cert_lines.specs.Grammar.{Words, choice_of}
 use Rattle.uz_cert_lines.specs.Forms.{number, finish, reads}
 use Rattle.uz_cert_lines.specs.Lines.{length_for, KindLineFits}
 use Rattle.uz_cert_lines.specs.Lines.{within, kind_form, event_after, event_form, fall_form, run_form, end_form}
@@ -17,7 +17,7 @@ use Rattle.uz_cert_lines.specs.declared.lines.Said.{Said}
 use Rattle.uz_cert_lines.specs.declared.lines.Said.TheVariants as said
 use Rattle.uz_cert_lines.specs.declared.version.Version.{Version}
 use Rattle.uz_cert_lines.specs.declared.version.Version.TheVariants.{First, Second}
-use Rattle.uz_cert_words.specs.declared.why.CertWhy.{CertWhy}
+use Rattle.uz_cert_lines.specs.declared.why.CertWhy.{CertWhy}
 use Rattle.uz_cert_lines.proofs.Lengths.{length_few, least_length, no_other_length, length_asked}
 use Rattle.uz_cert_writer.specs.Spelling.{kind_words, event_words, event_kind_words, run_words}
 use Rattle.uz_cert_laws.specs.Said.{line, RunFits}

@@ -8,12 +8,12 @@ use Rattle.uz_schedule.specs.WellFormed.{RangeFits, CellFits, spans_fit}
 use Rattle.uz_schedule.specs.declared.kinds.Kind.TheVariants.{Handler}
 use Rattle.uz_schedule.specs.declared.header.Cell.{Cell}
 use Rattle.uz_schedule.specs.declared.header.Head.{Head}
-use Rattle.uz_cert_words.specs.Why.{◌>>=◌}
-use Rattle.uz_cert_words.specs.Grammar.{Words, rest_of, next_as}
-use Rattle.uz_cert_words.specs.Values.{span_of}
+use Rattle.uz_cert_lines.specs.Why.{◌>>=◌}
+use Rattle.uz_cert_lines.specs.Grammar.{Words, rest_of, next_as}
+use Rattle.uz_cert_lines.specs.Values.{span_of}
 use Rattle.uz_cert_lines.specs.Forms.{with_span, spans_of}
-use Rattle.uz_cert_words.specs.declared.why.CertWhy.{CertWhy}
-use Rattle.uz_cert_words.specs.declared.why.CertWhy.TheVariants as why
+use Rattle.uz_cert_lines.specs.declared.why.CertWhy.{CertWhy}
+use Rattle.uz_cert_lines.specs.declared.why.CertWhy.TheVariants as why
 use Rattle.uz_cert_writer.specs.Spelling.{ends_word}
 use Rattle.uz_cert_laws.specs.Said.{line}
 use Rattle.uz_cert_laws.proofs.Tests.{fine, fault_not, and_true, both_true, bind_ok, then}

@@ -2,9 +2,9 @@
 use Rattle.std.proofs.Common.{◌≡◌, inr, ℕ, zero, suc, ◌+◌, ◌<◌, ◌≤◌, ◌≢◌, ◌^◌, Bool, true, false, cond, List, [], ◌∷◌, bytes_eq, ltb, refl}
 use Rattle.std.proofs.Common.{sym, ◌∙◌, ap, arith}
 use Rattle.std.specs.Prelude.{Some, Ok, Err, slice_get}
-use Rattle.uz_cert_words.specs.Grammar.{Words, fixed_of, choice_from, choice_of}
+use Rattle.uz_cert_lines.specs.Grammar.{Words, fixed_of, choice_from, choice_of}
 use Rattle.uz_cert_lines.specs.Lines.{within, one_of, rising, least_of}
-use Rattle.uz_cert_words.specs.declared.why.CertWhy.TheVariants as why
+use Rattle.uz_cert_lines.specs.declared.why.CertWhy.TheVariants as why
 use Rattle.uz_cert_laws.specs.Said.{line}
 use Rattle.uz_cert_laws.specs.Spells.{word_at}
 use Rattle.uz_cert_laws.proofs.Tests.{fine_is, fault_not, passed, so, word_is, same_word, lt_is, not_lt}

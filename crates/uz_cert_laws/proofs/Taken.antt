@@ -3,10 +3,10 @@ use Rattle.std.proofs.Common.{◌≡◌, ℕ, zero, suc, ◌+◌, ◌<◌, ◌�
 use Rattle.std.proofs.Common.{◌∷◌, ◌++◌, length, decimal, codes, bytes_eq, lit<, lit≤, refl, sym, ◌∙◌, ap, subst, arith}
 use Rattle.std.specs.Prelude.{Option, Some, None, Result, Ok, Err, All, slice_get, slice_set, slice_index}
 use Rattle.std.proofs.lemmas.List.Elements.{All-head, All-tail}
-use Rattle.uz_text.specs.Cutting.{cut_at}
-use Rattle.uz_text.specs.Numbers.{is_numeral, number_below}
-use Rattle.uz_text.proofs.Cuts.{cut_read}
-use Rattle.uz_text.proofs.NumberWords.{number_read}
+use Rattle.uz_hex.specs.Cutting.{cut_at}
+use Rattle.uz_hex.specs.Numbers.{is_numeral, number_below}
+use Rattle.uz_hex.proofs.Cuts.{cut_read}
+use Rattle.uz_hex.proofs.NumberWords.{number_read}
 use Rattle.uz_schedule.specs.Ends.{Ends}
 use Rattle.uz_schedule.specs.Limits.{is_top}
 use Rattle.uz_schedule.specs.Schedule.{scanline}
@@ -16,8 +16,8 @@ use Rattle.uz_schedule.specs.declared.header.Cell.{Cell}
 use Rattle.uz_schedule.specs.declared.facts.Fact.{Fact}
 use Rattle.uz_schedule.specs.declared.facts.PairFact.{PairFact}
 use Rattle.uz_schedule.specs.declared.facts.Bit.{Bit}
-use Rattle.uz_cert_words.specs.Why.{◌>>=◌}
-use Rattle.uz_cert_words.specs.Values.{digits, one_number, range, raw_of, fact_of, pair_of, ends_of, bit_of}
+use Rattle.uz_cert_lines.specs.Why.{◌>>=◌}
+use Rattle.uz_cert_lines.specs.Values.{digits, one_number, range, raw_of, fact_of, pair_of, ends_of, bit_of}
 use Rattle.uz_cert_lines.specs.Defaults.{is_default, is_any_pair, is_range, is_default_top}
 use Rattle.uz_cert_lines.specs.Items.{in_order, is_handler, bytes_forms, register_set, register_key, take_register, pair_forms, pair_set}
 use Rattle.uz_cert_lines.specs.Items.{take_pair}
@@ -26,12 +26,12 @@ use Rattle.uz_cert_lines.specs.Items.{numbered}
 use Rattle.uz_cert_lines.specs.Items.{cell_set, cell_value, take_cell, successor_set, take_successor, is_flag_z, take_letter, take_keyed}
 use Rattle.uz_cert_lines.specs.Items.{top_set, top_value, take_top, temp_forms, temp_set, take_temp, take_cut}
 use Rattle.uz_cert_lines.specs.Items.{take_named, take_second, take_item}
-use Rattle.uz_cert_words.specs.declared.values.FactForms.{FactForms}
-use Rattle.uz_cert_words.specs.declared.values.Raw.{Raw}
+use Rattle.uz_cert_lines.specs.declared.values.FactForms.{FactForms}
+use Rattle.uz_cert_lines.specs.declared.values.Raw.{Raw}
 use Rattle.uz_cert_lines.specs.declared.items.Shape.{Shape}
 use Rattle.uz_cert_lines.specs.declared.items.Facts.{Facts}
-use Rattle.uz_cert_words.specs.declared.why.CertWhy.{CertWhy}
-use Rattle.uz_cert_words.specs.declared.why.CertWhy.TheVariants as why
+use Rattle.uz_cert_lines.specs.declared.why.CertWhy.{CertWhy}
+use Rattle.uz_cert_lines.specs.declared.why.CertWhy.TheVariants as why
 use Rattle.uz_cert_writer.specs.Spelling.{range_word, item, fact_word, pair_word, flag_word}
 use Rattle.uz_cert_laws.proofs.Tests.{tested, and_true, both_true, or_false, not_true, fine_is, fault_not, passed, failed, so, bind_ok, then, le_is}
 use Rattle.uz_cert_laws.proofs.Tests.{is_le, lt_is, number_is, word_is}

@@ -2,10 +2,10 @@
 use Rattle.std.proofs.Common.{◌≡◌, ℕ, zero, suc, ◌+◌, ◌<◌, ◌≤◌, ◌≢◌, ◌^◌, Bool, true, false, cond, not, ◌-◌, ◌||◌, eqb, leb, ltb, List, [], ◌∷◌, ◌++◌, length}
 use Rattle.std.proofs.Common.{decimal, codes, lit<, lit≤, refl, ◌∙◌, ap, arith}
 use Rattle.std.specs.Prelude.{Some, Ok, Err}
-use Rattle.uz_text.specs.Numbers.{is_numeral, number_below}
-use Rattle.uz_text.proofs.Cuts.{cut_again}
-use Rattle.uz_text.proofs.NumberWords.{number_again}
-use Rattle.uz_text.proofs.Plain.{Lacks, lacks_cons, decimal_lacks_above}
+use Rattle.uz_hex.specs.Numbers.{is_numeral, number_below}
+use Rattle.uz_hex.proofs.Cuts.{cut_again}
+use Rattle.uz_hex.proofs.NumberWords.{number_again}
+use Rattle.uz_hex.proofs.Plain.{Lacks, lacks_cons, decimal_lacks_above}
 use Rattle.uz_schedule.specs.Ends.{Ends}
 use Rattle.uz_schedule.specs.Limits.{is_top}
 use Rattle.uz_schedule.specs.Schedule.{scanline, half_line}
@@ -15,8 +15,8 @@ use Rattle.uz_schedule.specs.declared.header.Cell.{Cell}
 use Rattle.uz_schedule.specs.declared.facts.Fact.{Fact}
 use Rattle.uz_schedule.specs.declared.facts.PairFact.{PairFact}
 use Rattle.uz_schedule.specs.declared.facts.Bit.{Bit}
-use Rattle.uz_cert_words.specs.Why.{◌>>=◌}
-use Rattle.uz_cert_words.specs.Values.{digits, one_number, range, raw_of, fact_of, pair_of, ends_of, bit_of}
+use Rattle.uz_cert_lines.specs.Why.{◌>>=◌}
+use Rattle.uz_cert_lines.specs.Values.{digits, one_number, range, raw_of, fact_of, pair_of, ends_of, bit_of}
 use Rattle.uz_cert_lines.specs.Defaults.{is_default, is_any_pair, is_range, is_default_top}
 use Rattle.uz_cert_lines.specs.Items.{is_handler, bytes_forms, register_set, register_key, take_register, pair_forms, pair_set, take_pair}
 use Rattle.uz_cert_lines.specs.Items.{flag_set, take_flag, slot_set, slot_room, take_slot, with_number, cell_at, cell_forms, numbered}
@@ -24,7 +24,7 @@ use Rattle.uz_cert_lines.specs.Items.{cell_set, cell_value, take_cell, successor
 use Rattle.uz_cert_lines.specs.Items.{top_set, top_value, take_top, temp_forms, temp_set, take_temp, take_named, take_item}
 use Rattle.uz_cert_lines.specs.declared.items.Shape.{Shape}
 use Rattle.uz_cert_lines.specs.declared.items.Facts.{Facts}
-use Rattle.uz_cert_words.specs.declared.why.CertWhy.TheVariants as why
+use Rattle.uz_cert_lines.specs.declared.why.CertWhy.TheVariants as why
 use Rattle.uz_cert_writer.specs.Spelling.{range_word, item, fact_word, pair_word, flag_word}
 use Rattle.uz_cert_laws.proofs.Tests.{so, else_so, then, is_le, is_lt, number_is}
 use Rattle.uz_cert_laws.proofs.Numbers.{digits_so, numeral_so, one_so}

@@ -5,7 +5,7 @@ use Rattle.uz_schedule.specs.Schedule.{response_clocks}
 use Rattle.uz_schedule.specs.WellFormed.{CellFits, StackFits}
 use Rattle.uz_schedule.specs.declared.kinds.Response.{Response}
 use Rattle.uz_schedule.specs.declared.header.Head.{Head}
-use Rattle.uz_cert_words.specs.Grammar.{Words}
+use Rattle.uz_cert_lines.specs.Grammar.{Words}
 use Rattle.uz_cert_lines.specs.declared.lines.Sizes.{Sizes}
 use Rattle.uz_cert_lines.specs.declared.lines.StackLine.{StackLine}
 

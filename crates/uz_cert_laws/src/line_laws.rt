@@ -13,7 +13,7 @@ ghost use Rattle.uz_schedule.specs.declared.lines.Event.{Event};
 ghost use Rattle.uz_schedule.specs.declared.states.Rest.{Rest};
 ghost use Rattle.uz_schedule.specs.declared.states.Entry.{Entry};
 ghost use Rattle.uz_schedule.specs.declared.states.Point.{Point};
-ghost use Rattle.uz_cert_words.specs.Grammar.{Words, words_of};
+ghost use Rattle.uz_cert_lines.specs.Grammar.{Words, words_of};
 ghost use Rattle.uz_cert_lines.specs.Forms.{reads};
 ghost use Rattle.uz_cert_lines.specs.Lines.{SizesFit, KindLineFits, IsPointIn};
 ghost use Rattle.uz_cert_lines.specs.Lines.{size_form, irq_form, stack_form, cell_form, kind_form};

@@ -4,3 +4,4 @@ pub mod LineLaws
 pub mod Spans
 pub mod Steps
 pub mod Fields
+pub mod Cutting

@@ -3,15 +3,15 @@
 -- at its place; so is a word too many.
 use Rattle.std.specs.Prelude.{◌≡◌, ◌⊎◌, ℕ, ℤ, Bool, true, false, List, [], ◌∷◌, Result, Ok, Err}
 use Rattle.uz_schedule.specs.Ends.{Ends}
-use Rattle.uz_cert_words.specs.Grammar.{Words, rest_of, missing, fixed_of, number_of, choice_of, slope_of, end_of}
+use Rattle.uz_cert_lines.specs.Grammar.{Words, rest_of, missing, fixed_of, number_of, choice_of, slope_of, end_of}
 use Rattle.uz_cert_lines.specs.Items.{first_facts, take_item}
 use Rattle.uz_cert_lines.specs.Forms.{LineForm, fixed, number, choice, slope, spans, items, finish, spans_of}
 use Rattle.uz_cert_lines.specs.declared.items.Facts.{Facts}
 use Rattle.uz_cert_lines.specs.declared.lines.Said.{Said}
 use Rattle.uz_cert_lines.specs.declared.items.Shape.{Shape}
 use Rattle.uz_schedule.specs.declared.header.Cell.{Cell}
-use Rattle.uz_cert_words.specs.declared.why.CertWhy.{CertWhy}
-use Rattle.uz_cert_words.specs.declared.why.CertWhy.TheVariants as whys
+use Rattle.uz_cert_lines.specs.declared.why.CertWhy.{CertWhy}
+use Rattle.uz_cert_lines.specs.declared.why.CertWhy.TheVariants as whys
 
 -- the next word is there and is read as this
 pub record NextIs {A : Type 0} (judge : List ℕ → Result A CertWhy) (words : Words) (a : A) : Type 0 where

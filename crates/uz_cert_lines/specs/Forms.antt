@@ -3,16 +3,16 @@ use Rattle.std.specs.Prelude.{ℕ, ℤ, List, [], ◌∷◌, Result, Ok, if◌th
 use Rattle.uz_schedule.specs.Ends.{Ends}
 use Rattle.uz_schedule.specs.declared.header.Cell.{Cell}
 use Rattle.uz_schedule.specs.declared.kinds.Kind.TheVariants.{Handler}
-use Rattle.uz_cert_words.specs.Why.{◌>>=◌}
-use Rattle.uz_cert_words.specs.Grammar.{Words, rest_of, next_as, fixed_of, number_of, choice_of, slope_of, end_of}
-use Rattle.uz_cert_words.specs.Values.{span_of}
+use Rattle.uz_cert_lines.specs.Why.{◌>>=◌}
+use Rattle.uz_cert_lines.specs.Grammar.{Words, rest_of, next_as, fixed_of, number_of, choice_of, slope_of, end_of}
+use Rattle.uz_cert_lines.specs.Values.{span_of}
 use Rattle.uz_cert_lines.specs.Items.{read_items}
 use Rattle.uz_schedule.specs.Tracked.{tracks}
-use Rattle.uz_cert_words.specs.declared.words.Asked.{Asked}
+use Rattle.uz_cert_lines.specs.declared.words.Asked.{Asked}
 use Rattle.uz_cert_lines.specs.declared.items.Shape.{Shape}
 use Rattle.uz_cert_lines.specs.declared.items.Facts.{Facts}
 use Rattle.uz_cert_lines.specs.declared.lines.Said.{Said}
-use Rattle.uz_cert_words.specs.declared.why.CertWhy.{CertWhy}
+use Rattle.uz_cert_lines.specs.declared.why.CertWhy.{CertWhy}
 
 -- a range for each cell of the handler
 

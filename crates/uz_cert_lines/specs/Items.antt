@@ -3,8 +3,8 @@
 use Rattle.std.specs.Prelude.{ℕ, zero, suc, ◌+◌, ◌-◌, ◌==◌, ◌&&◌, ◌||◌, not, nat_le, nat_lt, Bool, true, false, List, [], ◌∷◌, ◌++◌, length}
 use Rattle.std.specs.Prelude.{take, codes, bytes_eq, slice_get, slice_set, Option, Some, None, Result, Ok, Err, if◌then◌else◌}
 use Prim.Native.Char.{code}
-use Rattle.uz_text.specs.Cutting.{cut_at}
-use Rattle.uz_text.specs.Numbers.{is_numeral, number_below}
+use Rattle.uz_hex.specs.Cutting.{cut_at}
+use Rattle.uz_hex.specs.Numbers.{is_numeral, number_below}
 use Rattle.uz_schedule.specs.Ends.{Ends, whole_byte}
 use Rattle.uz_schedule.specs.Limits.{is_top}
 use Rattle.uz_schedule.specs.Schedule.{scanline}
@@ -17,19 +17,19 @@ use Rattle.uz_schedule.specs.declared.facts.PairFact.{PairFact}
 use Rattle.uz_schedule.specs.declared.facts.PairFact.TheVariants.{Any as AnyPair}
 use Rattle.uz_schedule.specs.declared.facts.Bit.{Bit}
 use Rattle.uz_schedule.specs.declared.facts.Bit.TheVariants.{Free, Old as OldBit}
-use Rattle.uz_cert_words.specs.Why.{◌>>=◌}
-use Rattle.uz_cert_words.specs.Values.{digits, one_number, range, raw_of, fact_of, pair_of, ends_of, bit_of}
-use Rattle.uz_cert_words.specs.Grammar.{Words}
-use Rattle.uz_cert_words.specs.FlagNames.{any_names}
+use Rattle.uz_cert_lines.specs.Why.{◌>>=◌}
+use Rattle.uz_cert_lines.specs.Values.{digits, one_number, range, raw_of, fact_of, pair_of, ends_of, bit_of}
+use Rattle.uz_cert_lines.specs.Grammar.{Words}
+use Rattle.uz_cert_lines.specs.FlagNames.{any_names}
 use Rattle.uz_cert_lines.specs.Defaults.{is_default, is_any_pair, is_range, is_default_top, range_fact}
 use Rattle.uz_schedule.specs.Tracked.{tracks}
 use Rattle.uz_schedule.specs.WellFormed.{is_default_flag}
-use Rattle.uz_cert_words.specs.declared.values.FactForms.{FactForms}
-use Rattle.uz_cert_words.specs.declared.values.Raw.{Raw}
+use Rattle.uz_cert_lines.specs.declared.values.FactForms.{FactForms}
+use Rattle.uz_cert_lines.specs.declared.values.Raw.{Raw}
 use Rattle.uz_cert_lines.specs.declared.items.Shape.{Shape}
 use Rattle.uz_cert_lines.specs.declared.items.Facts.{Facts}
-use Rattle.uz_cert_words.specs.declared.why.CertWhy.{CertWhy}
-use Rattle.uz_cert_words.specs.declared.why.CertWhy.TheVariants as why
+use Rattle.uz_cert_lines.specs.declared.why.CertWhy.{CertWhy}
+use Rattle.uz_cert_lines.specs.declared.why.CertWhy.TheVariants as why
 
 -- what holds where no item says otherwise
 

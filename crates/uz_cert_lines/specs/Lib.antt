@@ -3,3 +3,8 @@ pub mod FirstFault
 pub mod Forms
 pub mod Items
 pub mod Lines
+pub mod FlagNames
+pub mod Grammar
+pub mod Values
+pub mod Why
+pub mod WhyNames

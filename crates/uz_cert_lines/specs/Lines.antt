@@ -20,9 +20,9 @@ use Rattle.uz_schedule.specs.declared.states.Point.{Point}
 use Rattle.uz_schedule.specs.Tracked.{depth_of}
 use Rattle.uz_schedule.specs.WellFormed.{IsTimerLeftOut}
 use Rattle.uz_cert_lines.specs.Items.{is_handler}
-use Rattle.uz_cert_words.specs.Values.{ends}
+use Rattle.uz_cert_lines.specs.Values.{ends}
 use Rattle.uz_cert_lines.specs.Forms.{LineForm, fixed, number, choice, slope, spans, items, finish}
-use Rattle.uz_cert_words.specs.declared.words.Asked.{Asked}
+use Rattle.uz_cert_lines.specs.declared.words.Asked.{Asked}
 use Rattle.uz_cert_lines.specs.declared.items.Shape.{Shape}
 use Rattle.uz_cert_lines.specs.declared.items.Facts.{Facts}
 use Rattle.uz_cert_lines.specs.declared.lines.KindLine.{KindLine}
@@ -31,7 +31,7 @@ use Rattle.uz_cert_lines.specs.declared.lines.Said.TheVariants as said
 use Rattle.uz_cert_lines.specs.declared.lines.Sizes.{Sizes}
 use Rattle.uz_cert_lines.specs.declared.version.Version.{Version}
 use Rattle.uz_cert_lines.specs.declared.version.Version.TheVariants.{First, Second}
-use Rattle.uz_cert_words.specs.declared.why.CertWhy.TheVariants as why
+use Rattle.uz_cert_lines.specs.declared.why.CertWhy.TheVariants as why
 
 -- the first line of each text of a version
 abbrev pub head_line : Version → List ℕ

@@ -1,7 +1,7 @@
 //! The items of a line: what is said of registers, pairs, flags, slots, cells and the timer, and which points follow.
 
 ghost use Rattle.std.specs.Prelude.{◌≡◌, ◌<◌, ◌≤◌, ◌-◌, ◌^◌, IfOk, IfErr, IfSome, Ok, Err, length, slice_set};
-ghost use Rattle.uz_cert_words.specs.Values.{RawBelow};
+ghost use Rattle.uz_cert_lines.specs.Values.{RawBelow};
 ghost use Rattle.uz_cert_lines.specs.Items.{first_facts as first_facts_of, in_order as in_order_of};
 ghost use Rattle.uz_cert_lines.specs.Items.{bytes_forms as bytes_forms_of, register_set as set_register};
 ghost use Rattle.uz_cert_lines.specs.Items.{take_register as register_taken, pair_forms as forms_of_pairs, pair_set as set_pair};
@@ -20,11 +20,11 @@ use crate::defaults::{
     default_cells, default_flag, default_regs, is_any_pair, is_default, is_default_flag,
     is_handler, is_range, tracks,
 };
-use arrayvec::ArrayVec;
-use uz_cert_words::{
+use crate::{
     CertWhy, FactForms, Raw, Words, bit_of, digits, fact_of, one_number, pair_of, range, raw_of,
     span_of,
 };
+use arrayvec::ArrayVec;
 use uz_schedule::{Bit, Cell, Fact, Kind, PairFact, SCANLINE, Span, is_top};
 
 /// What the items of a line may say.
@@ -160,7 +160,7 @@ fn take_register(shape: Shape, facts: &mut Facts, key: &[u8], value: &[u8]) -> R
     ensures ok { IfOk result (λ _. register_taken shape facts.old key.now value.now ≡ Ok facts.new) }
     ensures err { IfErr result (λ e. register_taken shape facts.old key.now value.now ≡ Err e) }
 {
-    match uz_text::number(key, 32) {
+    match uz_hex::number(key, 32) {
         Some(r) => {
             let raw = raw_of(bytes_forms(shape), value)?;
             let fact = fact_of(raw)?;
@@ -394,9 +394,9 @@ fn take_cell(
     if !digits(key) {
         return Err(CertWhy::Word);
     }
-    let number = uz_text::number(key, cells.len() as u32);
+    let number = uz_hex::number(key, cells.len() as u32);
     let forms = cell_forms(shape, cell_at(cells, number));
-    let raw = numbered(uz_text::is_number(key), raw_of(forms, value))?;
+    let raw = numbered(uz_hex::is_number(key), raw_of(forms, value))?;
     cell_value(shape, cells, facts, cell_at(cells, number), raw)
 }
 
@@ -515,13 +515,13 @@ fn take_successor(shape: Shape, facts: &mut Facts, id: &[u8]) -> Result<(), Cert
     if shape.plain || !digits(id) {
         return Err(CertWhy::Word);
     }
-    if !uz_text::is_number(id) {
+    if !uz_hex::is_number(id) {
         return Err(CertWhy::Number);
     }
     if facts.next.len() >= 16 {
         return Err(CertWhy::Limit);
     }
-    successor_set(facts, uz_text::number(id, shape.points))
+    successor_set(facts, uz_hex::number(id, shape.points))
 }
 
 /// Whether `z=` with this value is the flag, where these words follow.
@@ -611,7 +611,7 @@ fn take_named(
     ensures ok { IfOk result (λ _. named_taken shape cells.now facts.old word.now later.now.list ≡ Ok facts.new) }
     ensures err { IfErr result (λ e. named_taken shape cells.now facts.old word.now later.now.list ≡ Err e) }
 {
-    match uz_text::cut(word, b'=') {
+    match uz_hex::cut(word, b'=') {
         Some((key, value)) => take_keyed(shape, cells, facts, key, value, later),
         None => Err(CertWhy::Word),
     }

@@ -1,11 +1,11 @@
 //! Laws about lines.
 
 ghost use Rattle.std.specs.Prelude.{◌≡◌, ◌⊎◌, ◌↔◌, Ok, Err};
-ghost use Rattle.uz_cert_words.specs.Grammar.{Words as WordsLeft};
+ghost use Rattle.uz_cert_lines.specs.Grammar.{Words as WordsLeft};
 ghost use Rattle.uz_cert_lines.specs.Forms.{LineForm, reads};
 ghost use Rattle.uz_cert_lines.specs.FirstFault.{Allows, HasFirstFault};
 ghost use Rattle.uz_cert_lines.specs.declared.lines.Said.{Said};
-ghost use Rattle.uz_cert_words.specs.declared.why.CertWhy.{CertWhy};
+ghost use Rattle.uz_cert_lines.specs.declared.why.CertWhy.{CertWhy};
 
 /// Whatever form is due, the words of a line are as it asks and say one thing, or have one first fault, and never both; and
 /// the line's reader answers just that. Does nothing.

@@ -6,7 +6,10 @@ mod items;
 mod laws;
 mod lines;
 mod numbers;
+mod values;
 mod version;
+mod why;
+mod words;
 
 pub use items::{Facts, Shape};
 pub use laws::line_or_fault;
@@ -14,4 +17,9 @@ pub use lines::{
     KindLine, PointPlace, Run, Said, Sizes, StackLine, cell_line, end_line, entry_line, event_line,
     fall_line, irq_line, kind_line, point_line, rest_line, run_line, size_line, stack_line,
 };
+pub use values::{
+    FactForms, Raw, bit_of, digits, fact_of, one_number, pair_of, range, raw_of, span_of,
+};
 pub use version::Version;
+pub use why::CertWhy;
+pub use words::{Asked, Words};

@@ -2,7 +2,7 @@
 
 ghost use Rattle.std.specs.Prelude.{ℕ, ◌≡◌, ◌≢◌, ◌<◌, ◌≤◌, ◌+◌, ◌-◌, ◌/◌, IfOk, IfErr, Ok, Err, [], ◌∷◌, codes, length, map};
 ghost use Rattle.uz_schedule.specs.Tracked.{depth_of as depth_of_kind};
-ghost use Rattle.uz_cert_words.specs.Grammar.{choice_of, next_as, number_of, rest_of};
+ghost use Rattle.uz_cert_lines.specs.Grammar.{choice_of, next_as, number_of, rest_of};
 ghost use Rattle.uz_cert_lines.specs.Forms.{reads, spans_of, finish as ends_with};
 ghost use Rattle.uz_cert_lines.specs.declared.lines.Said.TheVariants as said_of;
 ghost use Rattle.uz_cert_lines.specs.Lines.{size_form, irq_form, stack_form, cell_form, kind_form, event_form};
@@ -22,8 +22,8 @@ use crate::defaults::{is_handler, tracks};
 use crate::items::{Facts, Shape, read_items};
 use crate::numbers::{between, in_order, one_number_of, one_of, within};
 use crate::version::Version;
+use crate::{Asked, CertWhy, Words};
 use arrayvec::ArrayVec;
-use uz_cert_words::{Asked, CertWhy, Words};
 use uz_schedule::{
     CLOCK_LIMIT, Cell, Entry, Event, EventKind, Fact, HALF_LINE, Head, Kind, MOST_EVENTS, Owner,
     PairFact, Point, Response, Rest, SCANLINE, Span, Wide,

@@ -1,10 +1,10 @@
 //! The numbers of a line: what is asked of each, and its word read.
 
 ghost use Rattle.std.specs.Prelude.{◌≡◌, ◌<◌, ◌≤◌, IfOk};
-ghost use Rattle.uz_cert_words.specs.Grammar.{next_as, number_of, rest_of};
+ghost use Rattle.uz_cert_lines.specs.Grammar.{next_as, number_of, rest_of};
 ghost use Rattle.uz_cert_lines.specs.Lines.{within as within_limits, one_of as number_of_one, rising as rising_from};
 
-use uz_cert_words::{Asked, CertWhy, Words};
+use crate::{Asked, CertWhy, Words};
 
 /// A number from `low` on and below `limit`.
 pub fn within(low: u32, limit: u32) -> Asked

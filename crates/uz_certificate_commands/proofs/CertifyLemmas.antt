@@ -3,8 +3,8 @@ use Rattle.std.proofs.Common.{◌≡◌, ◌≢◌, ◌⊎◌, sym, inl, inr, �
 use Rattle.std.specs.Prelude.{Option, Some, IfOk, Result, Ok, Err}
 use Rattle.uz_shelf.specs.Files.{FileMap, HoldsFile, LacksFile}
 use Rattle.uz_files.specs.Formats.{SpellsCertificate}
-use Rattle.uz_soundness.specs.Acceptance.{Accepts}
-use Rattle.uz_soundness.specs.Certified.{Certified}
+use Rattle.uz_check.specs.Acceptance.{Accepts}
+use Rattle.uz_check.specs.Certified.{Certified}
 use Rattle.uz_schedule.specs.WellFormed.{WellFormed}
 use Rattle.uz_search.specs.declared.found.NotFound.{NotFound}
 use Rattle.uz_search.specs.declared.found.NotFound.TheVariants.{Stuck, Split, Full, Hint, NoRest, Memory as NoRoomToSearch}
@@ -30,10 +30,10 @@ use Rattle.uz_files.specs.Answers.{Answer, ComesOf, NoPart, MayCome, Write, Writ
 use Rattle.uz_files.specs.Endings.{ComesOfFailure, EndsBy, answer_of}
 use Rattle.uz_files.specs.Reading.{Fails, Says, text_limit}
 use Rattle.uz_certificate_commands.specs.CertifyCommand.{AllowedOf, CertifyAnswers, CertifyAnswersBy, CertifySucceeds, FilesCertify}
-use Rattle.uz_outcomes.specs.SearchLines.{Allowed, IsWorth}
+use Rattle.uz_certificate_commands.specs.SearchLines.{Allowed, IsWorth}
 use Rattle.uz_certificate_commands.specs.CertifyCommand.{IsCertified, IsCertifiedBy, certify_answer}
 use Rattle.uz_certificate_commands.specs.CertifyValues.{IsFound, IsFoundIn, IsPair, IsPairOf, IsRefusal, both_files}
-use Rattle.uz_outcomes.specs.VerdictLines.{accepted_line}
+use Rattle.uz_certificate_commands.specs.VerdictLines.{accepted_line}
 use Rattle.uz_files.proofs.EndingLemmas.{comes_by, run_outcome}
 use Rattle.uz_files.proofs.ReadingLemmas.{ends_by}
 use Rattle.uz_files.proofs.ReadsLemmas.{fails_says, fails_status, reads_or_fault, reads_same, says_same}

@@ -7,8 +7,8 @@ use Rattle.uz_hex.specs.Reading.{Flash}
 use Rattle.avr_asm.specs.declared.output.Hint.{Hint as SourceHint}
 use Rattle.uz_schedule.specs.declared.certificate.Cert.{Cert}
 use Rattle.uz_schedule.specs.declared.kinds.Response.TheVariants.{Four}
-use Rattle.uz_machine.specs.PadLine.{PadHistory}
-use Rattle.uz_machine.specs.Turn.{State}
+use Rattle.uz_core.specs.PadLine.{PadHistory}
+use Rattle.uz_core.specs.Turn.{State}
 use Rattle.uz_console.specs.declared.console.Console.{Console}
 use Rattle.uz_player.specs.declared.recording.Captured.{Captured}
 use Rattle.uz_files.specs.declared.ending.Ending.{Ending}
@@ -18,10 +18,10 @@ use Rattle.uz_files.specs.Answers.{ComesOf, MayCome, Outside, ended, one_line, o
 use Rattle.uz_files.specs.Endings.{answer_of}
 use Rattle.uz_files.proofs.EndingLemmas.{comes_by}
 use Rattle.uz_files.proofs.PrintedLemmas.{cut_part}
-use Rattle.uz_outcomes.specs.SearchLines.{Allowed}
-use Rattle.uz_outcomes.specs.Runs.{framed}
-use Rattle.uz_outcomes.specs.RunValues.{end_status, end_text}
-use Rattle.uz_outcomes.proofs.RunLemmas.{captured_answers}
+use Rattle.uz_certificate_commands.specs.SearchLines.{Allowed}
+use Rattle.uz_certificate_commands.specs.Runs.{framed}
+use Rattle.uz_certificate_commands.specs.RunValues.{end_status, end_text}
+use Rattle.uz_certificate_commands.proofs.RunLemmas.{captured_answers}
 use Rattle.uz_certificate_commands.specs.declared.demo_start.Start.{Start}
 use Rattle.uz_certificate_commands.specs.declared.demo_start.Start.TheVariants.{Ready, Refusal}
 use Rattle.uz_certificate_commands.specs.DemoCommand.{DemoAnswers, DemoParts, demo_clocks, demo_start}

@@ -11,10 +11,10 @@ use Rattle.uz_files.specs.declared.status.Status.{Status}
 use Rattle.uz_files.specs.declared.status.Status.TheVariants as status
 use Rattle.uz_files.specs.Answers.{Answer, ended}
 use Rattle.uz_files.specs.Formats.{Readings}
-use Rattle.uz_outcomes.specs.SearchLines.{Allowed}
-use Rattle.uz_outcomes.specs.VerdictLines.{accepted_line}
-use Rattle.uz_outcomes.specs.Runs.{IsFramedRun}
-use Rattle.uz_outcomes.proofs.SameRunLemmas.{same_run}
+use Rattle.uz_certificate_commands.specs.SearchLines.{Allowed}
+use Rattle.uz_certificate_commands.specs.VerdictLines.{accepted_line}
+use Rattle.uz_certificate_commands.specs.Runs.{IsFramedRun}
+use Rattle.uz_certificate_commands.proofs.SameRunLemmas.{same_run}
 use Rattle.uz_certificate_commands.specs.DemoCommand.{AllowedOfDemo, Assembles, DemoAnswers, DemoAnswersBy, DemoSucceeds, IsDemoBy, IsDemoRun}
 use Rattle.uz_certificate_commands.specs.DemoCommand.{RunEnters, demo_clocks, demo_start}
 use Rattle.uz_demo.specs.Source.{source}

@@ -4,17 +4,17 @@ use Rattle.std.proofs.lemmas.List.{get_or-replicate}
 use Rattle.uz_hex.specs.Reading.{Flash}
 use Rattle.uz_schedule.specs.declared.certificate.Cert.{Cert}
 use Rattle.uz_schedule.specs.WellFormed.{WellFormed}
-use Rattle.uz_machine.specs.PadLine.{PadHistory}
-use Rattle.uz_machine.specs.Turn.{State, sync_level}
+use Rattle.uz_core.specs.PadLine.{PadHistory}
+use Rattle.uz_core.specs.Turn.{State, sync_level}
 use Rattle.uz_console.specs.declared.console.Console.{Console}
-use Rattle.uz_soundness.specs.Acceptance.{Accepts}
-use Rattle.uz_soundness.specs.Certified.{Certified}
+use Rattle.uz_check.specs.Acceptance.{Accepts}
+use Rattle.uz_check.specs.Certified.{Certified}
 use Rattle.uz_files.specs.declared.status.Status.{Status}
 use Rattle.uz_files.specs.declared.status.Status.TheVariants as status
 use Rattle.uz_files.specs.Answers.{Answer, MayCome, Outside}
 use Rattle.uz_files.proofs.OutcomeLemmas.{from_answer}
-use Rattle.uz_outcomes.specs.Runs.{IsEnteredRun, IsFramedRun, IsHaltedRun}
-use Rattle.uz_outcomes.proofs.RunWorthLemmas.{NeverStops, RunsKeep}
+use Rattle.uz_certificate_commands.specs.Runs.{IsEnteredRun, IsFramedRun, IsHaltedRun}
+use Rattle.uz_certificate_commands.proofs.RunWorthLemmas.{NeverStops, RunsKeep}
 use Rattle.uz_certificate_commands.specs.declared.demo_start.Start.{Start}
 use Rattle.uz_certificate_commands.specs.DemoCommand.{DemoHalted, DemoPlayed, demo_clocks, demo_start}
 use Rattle.uz_certificate_commands.specs.DemoValues.{IsPutPart, IsReady, IsRunAfter, IsStart}

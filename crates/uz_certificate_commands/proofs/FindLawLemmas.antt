@@ -13,7 +13,7 @@ use Rattle.uz_files.specs.Formats.{Readings, RefusesSource}
 use Rattle.uz_files.specs.Reading.{text_limit}
 use Rattle.uz_files.specs.Writing.{hex_file}
 use Rattle.uz_files.proofs.ReadsLemmas.{fails_says, says_same}
-use Rattle.uz_outcomes.specs.SearchLines.{Allowed}
+use Rattle.uz_certificate_commands.specs.SearchLines.{Allowed}
 use Rattle.uz_program_commands.proofs.MacroLemmas.{OneEnd}
 use Rattle.uz_certificate_commands.specs.CertifyCommand.{CertifyAnswers, certify_answer}
 use Rattle.uz_certificate_commands.specs.FindCommand.{FindAnswers, FindTells, find_answer}

@@ -9,7 +9,7 @@ use Rattle.uz_hex.specs.Reading.{Flash}
 use Rattle.avr_asm.specs.Assembly.{Output}
 use Rattle.avr_asm.specs.Relation.{IsAssembly}
 use Rattle.avr_macro.specs.Expansion.{Expands, FlatText}
-use Rattle.avr_operands.specs.WhyNames.{asm_why_name}
+use Rattle.avr_text.specs.WhyNames.{asm_why_name}
 use Rattle.uz_schedule.specs.declared.kinds.Response.{Response}
 use Rattle.uz_schedule.specs.declared.certificate.Cert.{Cert}
 use Rattle.uz_search.specs.declared.found.NotFound.{NotFound}
@@ -23,7 +23,7 @@ use Rattle.uz_files.specs.Reading.{Fault, Fails, Says, text_limit}
 use Rattle.uz_files.proofs.FaultLemmas.{rose_later}
 use Rattle.uz_files.proofs.ReadingLemmas.{ends_by}
 use Rattle.uz_files.proofs.ReadsLemmas.{fails_says, fails_status, reads_or_fault, reads_same, says_same}
-use Rattle.uz_outcomes.specs.SearchLines.{Allowed}
+use Rattle.uz_certificate_commands.specs.SearchLines.{Allowed}
 use Rattle.uz_program_commands.specs.MacroCommands.{IsUnbuilt, origin_of}
 use Rattle.uz_program_commands.specs.MacroSource.{ExpandFails, ReadsFlat, bad_at, flat_of}
 use Rattle.uz_program_commands.proofs.MacroLemmas.{OneEnd, flat_or_fault, flat_same, not_both, same_next}

@@ -12,3 +12,7 @@ pub mod HintedLemmas
 pub mod FindLemmas
 pub mod FindLawLemmas
 pub mod WhyLemmas
+pub mod PairLemmas
+pub mod RunLemmas
+pub mod RunWorthLemmas
+pub mod SameRunLemmas

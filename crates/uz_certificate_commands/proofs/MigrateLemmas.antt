@@ -5,8 +5,8 @@ use Rattle.uz_shelf.specs.Files.{FileMap, LacksFile}
 use Rattle.uz_hex.specs.Reading.{Flash}
 use Rattle.uz_schedule.specs.WellFormed.{WellFormed}
 use Rattle.uz_schedule.specs.declared.certificate.Cert.{Cert}
-use Rattle.uz_soundness.specs.Acceptance.{Accepts}
-use Rattle.uz_scanlines.specs.OldRules.{AcceptsOld, IsOld}
+use Rattle.uz_check.specs.Acceptance.{Accepts}
+use Rattle.uz_check.specs.OldRules.{AcceptsOld, IsOld}
 use Rattle.uz_cert.specs.Texts.{IsOfVersion}
 use Rattle.uz_cert_lines.specs.declared.version.Version.TheVariants.{First}
 use Rattle.uz_files.specs.declared.work.Work.{Work}

@@ -8,8 +8,8 @@ use Rattle.uz_schedule.specs.declared.certificate.Cert.{Cert}
 use Rattle.uz_schedule.specs.WellFormed.{WellFormed}
 use Rattle.uz_pads.specs.declared.pads.Pad.{Pad}
 use Rattle.uz_console.specs.declared.console.Console.{Console}
-use Rattle.uz_machine.specs.PadLine.{PadHistory}
-use Rattle.uz_machine.specs.Turn.{State}
+use Rattle.uz_core.specs.PadLine.{PadHistory}
+use Rattle.uz_core.specs.Turn.{State}
 use Rattle.uz_check.proofs.OneVerdict.{accepted_none}
 use Rattle.uz_files.specs.declared.ending.Ending.{Ending}
 use Rattle.uz_files.specs.declared.ending.Failure.{Failure}
@@ -21,9 +21,9 @@ use Rattle.uz_files.specs.Answers.{Answer, ComesOf, MayCome, Outside, outside}
 use Rattle.uz_files.specs.Endings.{ComesOfFailure, EndsBy, answer_of}
 use Rattle.uz_files.specs.Reading.{Fails, Says, certificate_limit, text_limit}
 use Rattle.uz_certificate_commands.specs.PlayCommand.{IsPlay, PlayAnswers, PlayLacks, PlayParts, SpellsPlay}
-use Rattle.uz_outcomes.specs.Runs.{IsFramedPart, IsFramedRun}
+use Rattle.uz_certificate_commands.specs.Runs.{IsFramedPart, IsFramedRun}
 use Rattle.uz_certificate_commands.specs.PlayValues.{IsChecked, IsReady, IsRefusedPlay, IsStart, PlayPreface}
-use Rattle.uz_outcomes.specs.RunFiles.{start_of}
+use Rattle.uz_files.specs.RunFiles.{start_of}
 use Rattle.uz_files.proofs.FaultLemmas.{rose_later}
 use Rattle.uz_files.proofs.ReadingLemmas.{ends_by, fails_by}
 use Rattle.uz_files.proofs.ReadsLemmas.{fails_status}

@@ -11,14 +11,14 @@ use Rattle.uz_check.specs.declared.refusal.RefusedWhy.{RefusedWhy}
 use Rattle.uz_files.specs.declared.status.Status.TheVariants.{Done, Refused}
 use Rattle.uz_files.specs.Answers.{Answer, one_line}
 use Rattle.uz_files.specs.Reading.{certificate_limit, text_limit}
-use Rattle.uz_outcomes.specs.VerdictLines.{refused_line}
+use Rattle.uz_certificate_commands.specs.VerdictLines.{refused_line}
 use Rattle.uz_certificate_commands.specs.PlayCommand.{IsPlay, PlayAnswers, PlayAnswersFor, PlayAnswersWith, PlaySucceeds}
-use Rattle.uz_outcomes.specs.RunFiles.{start_of}
+use Rattle.uz_files.specs.RunFiles.{start_of}
 use Rattle.uz_files.proofs.ReadsLemmas.{fails_says, reads_or_fault, reads_same, says_same}
 use Rattle.uz_hex.specs.HexText.{IsHexOf}
 use Rattle.uz_files.specs.Formats.{SpellsCertificate}
 use Rattle.uz_files.specs.Formats.{Readings, RefusesCertificate, RefusesHex, RefusesPads, SpellsPads}
-use Rattle.uz_outcomes.proofs.SameRunLemmas.{same_run}
+use Rattle.uz_certificate_commands.proofs.SameRunLemmas.{same_run}
 
 same_play : (load_fault : Type 0) (clocks : ℕ) (frames : List ℕ) (image : Flash) (cert : Cert) (list : List Pad) (a b : Answer)
     → IsPlay clocks frames image cert list a → IsPlay clocks frames image cert list b → (a ≡ b) ⊎ load_fault

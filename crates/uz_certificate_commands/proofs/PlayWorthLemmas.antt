@@ -7,16 +7,16 @@ use Rattle.uz_hex.specs.Reading.{Flash}
 use Rattle.uz_schedule.specs.declared.certificate.Cert.{Cert}
 use Rattle.uz_schedule.specs.declared.kinds.Response.{Response}
 use Rattle.uz_pads.specs.declared.pads.Pad.{Pad}
-use Rattle.uz_machine.specs.Turn.{sync_level}
+use Rattle.uz_core.specs.Turn.{sync_level}
 use Rattle.uz_console.specs.declared.console.Console.{Console}
 use Rattle.uz_files.specs.declared.status.Status.{Status}
 use Rattle.uz_files.specs.declared.status.Status.TheVariants as status
 use Rattle.uz_files.specs.Answers.{MayCome, Outside}
 use Rattle.uz_certificate_commands.specs.PlayCommand.{FilesHalted, FilesPlayed}
-use Rattle.uz_outcomes.specs.Runs.{IsFramedPart, IsFramedRun}
+use Rattle.uz_certificate_commands.specs.Runs.{IsFramedPart, IsFramedRun}
 use Rattle.uz_certificate_commands.specs.PlayValues.{IsReady}
-use Rattle.uz_outcomes.specs.RunFiles.{start_of}
-use Rattle.uz_outcomes.proofs.RunWorthLemmas.{RunsKeep, NeverStops, done_run, stopped_run}
+use Rattle.uz_files.specs.RunFiles.{start_of}
+use Rattle.uz_certificate_commands.proofs.RunWorthLemmas.{RunsKeep, NeverStops, done_run, stopped_run}
 
 -- sync is low at reset
 low_at_reset : (image : Flash) (list : List Pad) (irq : Response) → sync_level (start_of image list irq).space ≡ 0

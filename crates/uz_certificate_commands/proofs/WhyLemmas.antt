@@ -13,8 +13,8 @@ use Rattle.avr_asm.specs.declared.output.Hint.{Hint as SourceHint}
 use Rattle.uz_schedule.specs.declared.kinds.Response.{Response}
 use Rattle.uz_schedule.specs.declared.certificate.Cert.{Cert}
 use Rattle.uz_schedule.specs.WellFormed.{WellFormed}
-use Rattle.uz_soundness.specs.Acceptance.{Accepts}
-use Rattle.uz_soundness.specs.Certified.{Certified}
+use Rattle.uz_check.specs.Acceptance.{Accepts}
+use Rattle.uz_check.specs.Certified.{Certified}
 use Rattle.uz_search.specs.declared.found.NotFound.{NotFound}
 use Rattle.uz_search.specs.declared.found.NotFound.TheVariants.{Hint}
 use Rattle.uz_files.specs.declared.ending.Ending.{Ending}
@@ -23,15 +23,15 @@ use Rattle.uz_files.specs.declared.ending.Failure.TheVariants.{Memory as NoRoom}
 use Rattle.uz_files.specs.declared.status.Status.TheVariants.{Done, Refused}
 use Rattle.uz_files.specs.Answers.{one_line}
 use Rattle.uz_files.specs.Endings.{EndsBy, Gives, answer_of}
-use Rattle.uz_outcomes.specs.SearchLines.{Allowed, not_found_line}
-use Rattle.uz_outcomes.specs.VerdictLines.{accepted_line}
+use Rattle.uz_certificate_commands.specs.SearchLines.{Allowed, not_found_line}
+use Rattle.uz_certificate_commands.specs.VerdictLines.{accepted_line}
 use Rattle.avr_asm.specs.SourceMap.{labels_of}
 use Rattle.avr_asm.specs.declared.labels.Label.{Label}
-use Rattle.uz_hints.specs.Rules.{IsBroken, IsRuleAt, hint_rules}
+use Rattle.uz_paths.specs.Rules.{IsBroken, IsRuleAt, hint_rules}
 use Rattle.uz_explanations.specs.Explanations.{explanation}
 use Rattle.uz_explanations.specs.Readings.{IsReading, Reading}
 use Rattle.uz_certificate_commands.specs.HintLines.{hint_text}
-use Rattle.uz_hints.specs.declared.rules.Rule.{Rule}
+use Rattle.uz_paths.specs.declared.rules.Rule.{Rule}
 use Rattle.uz_certificate_commands.specs.HintedSearch.{HintSource, IsSought, SpellsHinted}
 use Rattle.uz_certificate_commands.specs.WhyCommand.{HintsLead, IsHintPart, IsWay, OneReading, TellsRefusal, WhyAnswers, WhyTells}
 use Rattle.uz_certificate_commands.proofs.HintedLemmas.{TellsOne, TellsStatus, spelled_reads}

@@ -13,19 +13,19 @@ use Rattle.uz_schedule.specs.declared.kinds.Response.{Response}
 use Rattle.uz_schedule.specs.declared.certificate.Cert.{Cert}
 use Rattle.uz_cert_lines.specs.declared.version.Version.TheVariants.{Second}
 use Rattle.uz_cert_writer.specs.Spelling.{spelling}
-use Rattle.uz_soundness.specs.Acceptance.{Accepts}
-use Rattle.uz_soundness.specs.Certified.{Certified}
+use Rattle.uz_check.specs.Acceptance.{Accepts}
+use Rattle.uz_check.specs.Certified.{Certified}
 use Rattle.uz_search.specs.declared.found.NotFound.{NotFound}
 use Rattle.uz_search.specs.declared.found.NotFound.TheVariants.{Memory}
 use Rattle.uz_paths.specs.Finding.{Cause, IsAsked}
 use Rattle.uz_files.specs.declared.status.Status.TheVariants.{Done, Refused}
 use Rattle.uz_files.specs.Answers.{Answer, Write, one_line}
 use Rattle.uz_files.specs.Writing.{hex_file}
-use Rattle.uz_outcomes.specs.VerdictLines.{accepted_line}
+use Rattle.uz_certificate_commands.specs.VerdictLines.{accepted_line}
 use Rattle.uz_files.specs.Reading.{Reads, Says, text_limit}
 use Rattle.avr_asm.specs.Relation.{IsAssembly}
 use Rattle.uz_files.specs.Formats.{RefusesSource}
-use Rattle.uz_outcomes.specs.SearchLines.{not_found_line, Allowed}
+use Rattle.uz_certificate_commands.specs.SearchLines.{not_found_line, Allowed}
 
 -- Answers
 

@@ -14,8 +14,8 @@ use Rattle.uz_search.specs.declared.found.NotFound.{NotFound}
 use Rattle.uz_certificate_commands.specs.declared.certify_command.Found.{Found}
 use Rattle.uz_certificate_commands.specs.declared.certify_command.Found.TheVariants.{Pair, Refusal}
 use Rattle.uz_files.specs.Answers.{Write}
-use Rattle.uz_outcomes.specs.SearchLines.{Allowed, not_found_line}
-use Rattle.uz_outcomes.specs.VerdictLines.{accepted_line}
+use Rattle.uz_certificate_commands.specs.SearchLines.{Allowed, not_found_line}
+use Rattle.uz_certificate_commands.specs.VerdictLines.{accepted_line}
 use Rattle.uz_files.specs.Reading.{Says, text_limit}
 use Rattle.avr_asm.specs.Relation.{IsAssembly}
 

@@ -2,10 +2,10 @@
 -- lines and clocks its frame has.
 use Rattle.std.specs.Prelude.{ℕ, List, Option}
 use Rattle.uz_shelf.specs.Files.{FileMap}
-use Rattle.uz_soundness.specs.Certified.{Certified}
+use Rattle.uz_check.specs.Certified.{Certified}
 use Rattle.uz_files.specs.Answers.{Answer}
-use Rattle.uz_outcomes.specs.PairFiles.{PairAnswers, SpellPair}
-use Rattle.uz_outcomes.specs.VerdictLines.{accepted_line}
+use Rattle.uz_certificate_commands.specs.PairFiles.{PairAnswers, SpellPair}
+use Rattle.uz_certificate_commands.specs.VerdictLines.{accepted_line}
 
 abbrev pub CheckAnswers : Option FileMap → Type 0 → List ℕ → List ℕ → Answer → Type 0
 CheckAnswers = PairAnswers accepted_line

@@ -8,23 +8,23 @@ use Rattle.avr_asm.specs.Relation.{IsAssembly}
 use Rattle.uz_schedule.specs.declared.certificate.Cert.{Cert}
 use Rattle.uz_schedule.specs.declared.kinds.Response.TheVariants.{Four}
 use Rattle.uz_schedule.specs.Schedule.{frame_of}
-use Rattle.uz_machine.specs.declared.Edge.{Edge}
-use Rattle.uz_machine.specs.PadLine.{PadHistory}
-use Rattle.uz_machine.specs.Turn.{State}
-use Rattle.uz_machine.specs.Run.{IsClockRun}
+use Rattle.uz_core.specs.declared.machine.Edge.{Edge}
+use Rattle.uz_core.specs.PadLine.{PadHistory}
+use Rattle.uz_core.specs.Turn.{State}
+use Rattle.uz_core.specs.Run.{IsClockRun}
 use Rattle.uz_console.specs.Approaches.{EntersFirst}
-use Rattle.uz_soundness.specs.Keeping.{KeepsSchedule}
-use Rattle.uz_soundness.specs.Acceptance.{Accepts}
-use Rattle.uz_soundness.specs.Certified.{Certified}
+use Rattle.uz_check.specs.Keeping.{KeepsSchedule}
+use Rattle.uz_check.specs.Acceptance.{Accepts}
+use Rattle.uz_check.specs.Certified.{Certified}
 use Rattle.uz_search.specs.declared.found.NotFound.{NotFound}
 use Rattle.uz_paths.specs.Finding.{IsAsked}
 use Rattle.uz_demo.specs.Source.{source}
 use Rattle.uz_files.specs.declared.status.Status.TheVariants.{Refused, Unwritten}
 use Rattle.uz_files.specs.Answers.{Answer, ended, one_line}
-use Rattle.uz_outcomes.specs.SearchLines.{Allowed, not_found_line}
-use Rattle.uz_outcomes.specs.VerdictLines.{accepted_line}
-use Rattle.uz_outcomes.specs.RunFiles.{start_of}
-use Rattle.uz_outcomes.specs.Runs.{Enters, IsFramedRun}
+use Rattle.uz_certificate_commands.specs.SearchLines.{Allowed, not_found_line}
+use Rattle.uz_certificate_commands.specs.VerdictLines.{accepted_line}
+use Rattle.uz_files.specs.RunFiles.{start_of}
+use Rattle.uz_certificate_commands.specs.Runs.{Enters, IsFramedRun}
 
 -- the demo's source has this assembly
 abbrev pub Assembles : ℕ → Output → Type 0

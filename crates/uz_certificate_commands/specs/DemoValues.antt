@@ -5,14 +5,14 @@ use Rattle.avr_asm.specs.Assembly.{Output}
 use Rattle.avr_asm.specs.declared.output.Hint.{Hint as SourceHint}
 use Rattle.uz_schedule.specs.declared.certificate.Cert.{Cert}
 use Rattle.uz_schedule.specs.declared.kinds.Response.TheVariants.{Four}
-use Rattle.uz_machine.specs.PadLine.{PadHistory}
-use Rattle.uz_machine.specs.StateRange.{IsState}
-use Rattle.uz_machine.specs.Turn.{State}
+use Rattle.uz_core.specs.PadLine.{PadHistory}
+use Rattle.uz_core.specs.StateRange.{IsState}
+use Rattle.uz_core.specs.Turn.{State}
 use Rattle.uz_console.specs.Consoles.{StandsFor}
 use Rattle.uz_console.specs.declared.console.Console.{Console}
 use Rattle.uz_search.specs.declared.found.NotFound.{NotFound}
-use Rattle.uz_outcomes.specs.SearchLines.{Allowed, not_found_line}
-use Rattle.uz_outcomes.specs.VerdictLines.{accepted_line}
+use Rattle.uz_certificate_commands.specs.SearchLines.{Allowed, not_found_line}
+use Rattle.uz_certificate_commands.specs.VerdictLines.{accepted_line}
 use Rattle.uz_certificate_commands.specs.declared.demo_start.Start.{Start}
 use Rattle.uz_certificate_commands.specs.declared.demo_start.Start.TheVariants.{Ready, Refusal}
 use Rattle.uz_certificate_commands.specs.DemoCommand.{Assembles, demo_clocks, demo_start}
@@ -20,7 +20,7 @@ use Rattle.uz_player.specs.Captures.{IsPlayedInto}
 use Rattle.uz_player.specs.declared.recording.RunEnd.{RunEnd}
 use Rattle.uz_files.specs.Answers.{Answer, ended}
 use Rattle.uz_files.specs.declared.status.Status.TheVariants.{Unwritten}
-use Rattle.uz_outcomes.specs.Runs.{IsFramedRun}
+use Rattle.uz_certificate_commands.specs.Runs.{IsFramedRun}
 use Rattle.uz_player.specs.declared.counts.Counts.{Counts}
 use Rattle.uz_player.specs.declared.player.Player.{Player}
 use Rattle.uz_player.specs.Playing.{Plays, cert_of, counts_of, limit_of}

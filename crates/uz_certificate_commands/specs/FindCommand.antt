@@ -4,16 +4,16 @@ use Rattle.uz_shelf.specs.Files.{FileMap, HoldsFile}
 use Rattle.uz_hex.specs.Reading.{Flash}
 use Rattle.uz_schedule.specs.declared.kinds.Response.{Response}
 use Rattle.uz_schedule.specs.declared.certificate.Cert.{Cert}
-use Rattle.uz_soundness.specs.Acceptance.{Accepts}
-use Rattle.uz_soundness.specs.Certified.{Certified}
+use Rattle.uz_check.specs.Acceptance.{Accepts}
+use Rattle.uz_check.specs.Certified.{Certified}
 use Rattle.uz_search.specs.declared.found.NotFound.{NotFound}
 use Rattle.uz_paths.specs.Finding.{IsAsked}
 use Rattle.uz_files.specs.declared.status.Status.TheVariants.{Refused}
 use Rattle.uz_files.specs.Answers.{Answer, one_line}
 use Rattle.uz_files.specs.Formats.{SpellsCertificate}
 use Rattle.uz_files.specs.Writing.{written_then}
-use Rattle.uz_outcomes.specs.SearchLines.{not_found_line}
-use Rattle.uz_outcomes.specs.VerdictLines.{accepted_line}
+use Rattle.uz_certificate_commands.specs.SearchLines.{not_found_line}
+use Rattle.uz_certificate_commands.specs.VerdictLines.{accepted_line}
 use Rattle.uz_certificate_commands.specs.CertifyCommand.{cert_file}
 use Rattle.uz_certificate_commands.specs.HintedSearch.{HintSource, IsSought, IsSoughtBy, ReadsHinted, SpellsHinted}
 

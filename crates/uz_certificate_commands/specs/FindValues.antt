@@ -12,8 +12,8 @@ use Rattle.uz_files.specs.declared.ending.Ending.{Ending}
 use Rattle.uz_files.specs.declared.status.Status.TheVariants.{Refused}
 use Rattle.uz_files.specs.declared.work.Work.{Work}
 use Rattle.uz_files.specs.Formats.{SpellsCertificate}
-use Rattle.uz_outcomes.specs.SearchLines.{Allowed, not_found_line}
-use Rattle.uz_outcomes.specs.VerdictLines.{accepted_line}
+use Rattle.uz_certificate_commands.specs.SearchLines.{Allowed, not_found_line}
+use Rattle.uz_certificate_commands.specs.VerdictLines.{accepted_line}
 use Rattle.uz_certificate_commands.specs.HintedSearch.{HintSource, SpellsHinted}
 use Rattle.uz_certificate_commands.specs.declared.find_command.Sought.{Sought}
 use Rattle.uz_certificate_commands.specs.declared.find_command.Sought.TheVariants.{Made, Refusal}

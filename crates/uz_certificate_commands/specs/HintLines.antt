@@ -2,12 +2,12 @@
 use Rattle.std.specs.Prelude.{ℕ, ◌-◌, ◌==◌, List, ◌++◌, codes, decimal, slice_get, Option, Some, None}
 use Rattle.std.specs.List.{slice_split}
 use Prim.Native.Char.{code}
-use Rattle.uz_text.specs.Lines.{line_at}
+use Rattle.uz_hex.specs.Lines.{line_at}
 use Rattle.uz_program_commands.specs.MacroCommands.{origin_of}
 use Rattle.uz_program_commands.specs.MacroSource.{name_at}
 use Rattle.avr_asm.specs.SourceMap.{hint_lines_of}
-use Rattle.uz_hints.specs.Rules.{words_of}
-use Rattle.uz_hints.specs.declared.rules.Rule.{Rule}
+use Rattle.uz_paths.specs.Rules.{words_of}
+use Rattle.uz_paths.specs.declared.rules.Rule.{Rule}
 use Rattle.uz_certificate_commands.specs.HintedSearch.{HintSource}
 
 -- the line of a text by its number, counted from 1, without its end

@@ -19,7 +19,7 @@ use Rattle.uz_paths.specs.Finding.{Cause}
 use Rattle.uz_files.specs.Answers.{Answer}
 use Rattle.uz_files.specs.Formats.{RefusesHex}
 use Rattle.uz_files.specs.Reading.{Reads, Says, text_limit}
-use Rattle.uz_outcomes.specs.SearchLines.{Allowed}
+use Rattle.uz_certificate_commands.specs.SearchLines.{Allowed}
 use Rattle.uz_program_commands.specs.MacroCommands.{IsUnbuilt, origin_of}
 use Rattle.uz_program_commands.specs.MacroSource.{MacroLacks, ReadsFlat, bad_at, flat_of}
 

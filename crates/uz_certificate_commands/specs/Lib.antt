@@ -16,3 +16,9 @@ pub mod FindValues
 pub mod FindLaw
 pub mod HintLines
 pub mod WhyCommand
+pub mod CheckedValues
+pub mod PairFiles
+pub mod VerdictLines
+pub mod RunValues
+pub mod Runs
+pub mod SearchLines

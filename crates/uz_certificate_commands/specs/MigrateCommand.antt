@@ -4,8 +4,8 @@ use Rattle.std.specs.Prelude.{◌≡◌, ◌↔◌, ℕ, List, ◌++◌, codes, 
 use Rattle.uz_shelf.specs.Files.{FileMap, HoldsFile}
 use Rattle.uz_hex.specs.Reading.{Flash}
 use Rattle.uz_schedule.specs.declared.certificate.Cert.{Cert}
-use Rattle.uz_soundness.specs.Acceptance.{Accepts}
-use Rattle.uz_scanlines.specs.OldRules.{AcceptsOld}
+use Rattle.uz_check.specs.Acceptance.{Accepts}
+use Rattle.uz_check.specs.OldRules.{AcceptsOld}
 use Rattle.uz_cert_lines.specs.declared.version.Version.TheVariants.{Second}
 use Rattle.uz_cert_writer.specs.Spelling.{spelling}
 use Rattle.uz_files.specs.Answers.{Answer, Write}

@@ -6,24 +6,24 @@ use Rattle.uz_shelf.specs.Files.{FileMap, LacksFile}
 use Rattle.uz_hex.specs.Reading.{Flash}
 use Rattle.uz_schedule.specs.declared.certificate.Cert.{Cert}
 use Rattle.uz_pads.specs.declared.pads.Pad.{Pad}
-use Rattle.uz_machine.specs.declared.Edge.{Edge}
-use Rattle.uz_machine.specs.PadLine.{PadHistory}
-use Rattle.uz_machine.specs.Turn.{State}
-use Rattle.uz_machine.specs.Run.{IsClockRun}
+use Rattle.uz_core.specs.declared.machine.Edge.{Edge}
+use Rattle.uz_core.specs.PadLine.{PadHistory}
+use Rattle.uz_core.specs.Turn.{State}
+use Rattle.uz_core.specs.Run.{IsClockRun}
 use Rattle.uz_console.specs.Approaches.{EntersFirst}
-use Rattle.uz_soundness.specs.Keeping.{KeepsSchedule}
-use Rattle.uz_soundness.specs.Acceptance.{Accepts}
+use Rattle.uz_check.specs.Keeping.{KeepsSchedule}
+use Rattle.uz_check.specs.Acceptance.{Accepts}
 use Rattle.uz_check.specs.Refusal.{FirstRefusal}
 use Rattle.uz_check.specs.declared.refusal.RefusedWhy.{RefusedWhy}
 use Rattle.uz_files.specs.declared.status.Status.TheVariants.{Refused}
 use Rattle.uz_files.specs.Answers.{Answer, one_line}
 use Rattle.uz_files.specs.Reading.{Reads, Says, certificate_limit, text_limit}
-use Rattle.uz_outcomes.specs.VerdictLines.{refused_line}
-use Rattle.uz_outcomes.specs.RunFiles.{start_of}
+use Rattle.uz_certificate_commands.specs.VerdictLines.{refused_line}
+use Rattle.uz_files.specs.RunFiles.{start_of}
 use Rattle.uz_hex.specs.HexText.{IsHexOf}
 use Rattle.uz_files.specs.Formats.{SpellsCertificate}
 use Rattle.uz_files.specs.Formats.{RefusesCertificate, RefusesHex, RefusesPads, SpellsPads}
-use Rattle.uz_outcomes.specs.Runs.{IsFramedRun, IsFramedPart, Enters}
+use Rattle.uz_certificate_commands.specs.Runs.{IsFramedRun, IsFramedPart, Enters}
 
 -- Answers
 

@@ -7,9 +7,9 @@ use Rattle.uz_schedule.specs.WellFormed.{WellFormed}
 use Rattle.uz_pads.specs.declared.pads.Pad.{Pad}
 use Rattle.uz_console.specs.Consoles.{StandsFor}
 use Rattle.uz_console.specs.declared.console.Console.{Console}
-use Rattle.uz_machine.specs.StateRange.{IsState}
-use Rattle.uz_soundness.specs.Acceptance.{Accepts}
-use Rattle.uz_soundness.specs.Certified.{Certified}
+use Rattle.uz_core.specs.StateRange.{IsState}
+use Rattle.uz_check.specs.Acceptance.{Accepts}
+use Rattle.uz_check.specs.Certified.{Certified}
 use Rattle.uz_certificate_commands.specs.declared.play_command.Start.{Start}
 use Rattle.uz_certificate_commands.specs.declared.play_command.Start.TheVariants.{Ready, Refused as RefusedPair}
 use Rattle.uz_files.specs.declared.status.Status.TheVariants.{Refused}
@@ -17,7 +17,7 @@ use Rattle.uz_files.specs.Answers.{Answer}
 use Rattle.uz_files.specs.Endings.{answer_of}
 use Rattle.uz_files.specs.Reading.{Fails, Says, certificate_limit, text_limit}
 use Rattle.uz_certificate_commands.specs.PlayCommand.{IsPlay, SpellsPlay}
-use Rattle.uz_outcomes.specs.RunFiles.{start_of}
+use Rattle.uz_files.specs.RunFiles.{start_of}
 use Rattle.uz_hex.specs.HexText.{IsHexOf}
 use Rattle.uz_files.specs.Formats.{SpellsCertificate}
 use Rattle.uz_files.specs.Formats.{RefusesCertificate, RefusesHex, RefusesPads}

@@ -7,7 +7,7 @@ use Rattle.uz_report.specs.declared.main_time.Slack.{Slack}
 use Rattle.uz_report.specs.Slacks.{frame_least, frame_most, latest, slacks_of}
 use Rattle.uz_report.specs.MainsTime.{MainsTimeTells}
 use Rattle.uz_files.specs.Answers.{Answer}
-use Rattle.uz_outcomes.specs.PairFiles.{PairAnswers, SpellPair}
+use Rattle.uz_certificate_commands.specs.PairFiles.{PairAnswers, SpellPair}
 
 abbrev pub range_text : ℕ → ℕ → List ℕ
 range_text least most = codes " least " ++ decimal least ++ codes " most " ++ decimal most ++ codes "\n"

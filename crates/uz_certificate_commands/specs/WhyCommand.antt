@@ -5,18 +5,18 @@ use Rattle.uz_shelf.specs.Files.{FileMap}
 use Rattle.uz_hex.specs.Reading.{Flash}
 use Rattle.uz_schedule.specs.declared.kinds.Response.{Response}
 use Rattle.uz_schedule.specs.declared.certificate.Cert.{Cert}
-use Rattle.uz_soundness.specs.Acceptance.{Accepts}
-use Rattle.uz_soundness.specs.Certified.{Certified}
+use Rattle.uz_check.specs.Acceptance.{Accepts}
+use Rattle.uz_check.specs.Certified.{Certified}
 use Rattle.uz_search.specs.declared.found.NotFound.{NotFound}
 use Rattle.uz_search.specs.declared.found.NotFound.TheVariants.{Hint}
 use Rattle.uz_paths.specs.Finding.{IsAsked}
 use Rattle.uz_files.specs.declared.status.Status.TheVariants.{Done, Refused}
 use Rattle.uz_files.specs.Answers.{Answer, one_line}
-use Rattle.uz_outcomes.specs.SearchLines.{not_found_line}
-use Rattle.uz_outcomes.specs.VerdictLines.{accepted_line}
+use Rattle.uz_certificate_commands.specs.SearchLines.{not_found_line}
+use Rattle.uz_certificate_commands.specs.VerdictLines.{accepted_line}
 use Rattle.avr_asm.specs.SourceMap.{labels_of}
-use Rattle.uz_hints.specs.Rules.{IsRuleAt}
-use Rattle.uz_hints.specs.declared.rules.Rule.{Rule}
+use Rattle.uz_paths.specs.Rules.{IsRuleAt}
+use Rattle.uz_paths.specs.declared.rules.Rule.{Rule}
 use Rattle.uz_explanations.specs.Explanations.{explanation}
 use Rattle.uz_explanations.specs.Readings.{IsReading, Reading}
 use Rattle.uz_certificate_commands.specs.HintLines.{hint_text}

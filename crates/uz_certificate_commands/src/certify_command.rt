@@ -10,16 +10,17 @@ ghost use Rattle.uz_files.specs.Endings.{EndsBy};
 ghost use Rattle.uz_files.specs.Reading.{Fails, text_limit};
 ghost use Rattle.uz_files.specs.Formats.{RefusesSource};
 
+use crate::search_lines::not_found;
+use crate::verdict_lines::accepted;
 use avr_asm::Built;
 use std::alloc::{AllocError, Global};
 use uz_cert::{Cert, text_is_unique, write_cert};
+use uz_check::soundness;
 use uz_files::{Ending, Failure, Source, Status, end_with, give_up, read_file, write_file};
 use uz_hex::{Image, write_hex};
-use uz_outcomes::{accepted, not_found};
 use uz_paths::{NotFound, find};
 use uz_schedule::Response;
 use uz_shelf::{Shelf, Sink, WriteError};
-use uz_soundness::soundness;
 
 /// What comes of a search.
 #[derive(Drop)]

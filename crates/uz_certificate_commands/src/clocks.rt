@@ -1,9 +1,9 @@
 //! How long a run that is played goes on.
 
 ghost use Rattle.std.specs.Prelude.{◌≡◌, ◌≤◌, option_map};
-ghost use Rattle.uz_text.specs.Numbers.{number_within as number_from_low};
+ghost use Rattle.uz_hex.specs.Numbers.{number_within as number_from_low};
 
-use uz_text::number_within;
+use uz_hex::number_within;
 
 /// A number of clocks, 1 to 1,000,000,000.
 #[derive(Clone, Copy)]

@@ -5,9 +5,9 @@ ghost use Rattle.uz_console.specs.Consoles.{StandsFor, clock_of as console_clock
 ghost use Rattle.uz_certificate_commands.specs.DemoCommand.{DemoAnswers, DemoHalted, DemoParts, DemoPlayed, demo_clocks};
 ghost use Rattle.uz_certificate_commands.specs.DemoValues.{GoesOn, IsPlayedOut, IsPutPart, IsRunAfter};
 ghost use Rattle.uz_files.specs.Answers.{ComesOf, MayCome, ended, outside};
-ghost use Rattle.uz_machine.specs.PadLine.{PadHistory};
-ghost use Rattle.uz_machine.specs.Turn.{State};
-ghost use Rattle.uz_outcomes.specs.RunValues.{end_status, end_text};
+ghost use Rattle.uz_core.specs.PadLine.{PadHistory};
+ghost use Rattle.uz_core.specs.Turn.{State};
+ghost use Rattle.uz_certificate_commands.specs.RunValues.{end_status, end_text};
 ghost use Rattle.uz_player.specs.Playing.{Plays, ahead_of, cert_of, counts_of, limit_of};
 ghost use Rattle.uz_schedule.specs.WellFormed.{WellFormed};
 ghost use Rattle.uz_shelf.specs.Faults.{Rose};
@@ -15,14 +15,14 @@ ghost use Rattle.uz_shelf.specs.Files.{FileMap};
 ghost use Rattle.uz_shelf.specs.Text.{TakesAll};
 
 use crate::demo_start::{Start, start_demo};
+use crate::run_lines::ending_of;
 use std::alloc::{AllocError, Global};
+use uz_check::{played_runs_keep, soundness};
 use uz_console::Console;
 use uz_files::{Ending, Status, end_with};
-use uz_outcomes::ending_of;
 use uz_player::{Captured, Played, Player, RunEnd};
 use uz_schedule::Cert;
 use uz_shelf::{Sink, WriteError};
-use uz_soundness::{played_runs_keep, soundness};
 
 /// The clocks of three frames.
 fn three_frames(cert: &Cert) -> u32

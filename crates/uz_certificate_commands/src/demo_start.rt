@@ -6,12 +6,13 @@ ghost use Rattle.uz_certificate_commands.specs.DemoCommand.{Assembles};
 ghost use Rattle.uz_certificate_commands.specs.DemoValues.{IsPrepared, IsSearched, IsStart};
 ghost use Rattle.uz_schedule.specs.WellFormed.{WellFormed};
 
+use crate::search_lines::not_found;
+use crate::verdict_lines::accepted;
 use avr_asm::{Built, assemble};
 use std::alloc::{AllocError, Global};
 use uz_console::{Console, reset_is_in_range};
 use uz_demo::demo_source;
 use uz_hex::Image;
-use uz_outcomes::{accepted, not_found};
 use uz_paths::{NotFound, find};
 use uz_schedule::{Cert, Response};
 

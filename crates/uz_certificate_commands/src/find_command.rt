@@ -10,16 +10,17 @@ ghost use Rattle.uz_certificate_commands.specs.FindValues.{IsFoundFor, IsSoughtF
 ghost use Rattle.uz_certificate_commands.specs.HintedValues.{HintedFails};
 
 use crate::hinted::read_hinted;
+use crate::search_lines::not_found;
+use crate::verdict_lines::accepted;
 use avr_asm::Hint;
 use std::alloc::{AllocError, Global};
 use uz_cert::{Cert, text_is_unique, write_cert};
+use uz_check::soundness;
 use uz_files::{Ending, Failure, Status, Work, end_with, finish_work, give_up};
 use uz_hex::Image;
-use uz_outcomes::{accepted, not_found};
 use uz_paths::{NotFound, find};
 use uz_schedule::Response;
 use uz_shelf::{Shelf, Sink};
-use uz_soundness::soundness;
 
 /// What comes of a search for the certificate of an image.
 #[derive(Drop)]

@@ -10,9 +10,9 @@ ghost use Rattle.uz_certificate_commands.specs.HintedValues.{hints_seen};
 use crate::hinted::HintsRead;
 use std::alloc::{AllocError, Global};
 use uz_files::{put_number, put_value};
-use uz_hints::Rule;
+use uz_hex::{line_at, pieces};
+use uz_paths::Rule;
 use uz_program_commands::{name_at, origin_of};
-use uz_text::{line_at, pieces};
 
 /// The line of a text by its number, counted from 1, without its end; empty if there is none.
 fn line_of(alloc: Global, text: &[u8], line: u32) -> Result<Vec<u8>, AllocError>

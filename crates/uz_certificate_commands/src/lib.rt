@@ -13,11 +13,15 @@ mod hint_lines;
 mod hinted;
 mod migrate_command;
 mod migrate_law;
+mod pair;
 mod play_command;
 mod play_run;
 mod report_command;
 mod report_lines;
+mod run_lines;
+mod search_lines;
 mod timing_command;
+mod verdict_lines;
 mod why_command;
 mod why_law;
 

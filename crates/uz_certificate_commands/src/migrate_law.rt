@@ -8,7 +8,7 @@ ghost use Rattle.uz_files.specs.Formats.{SpellsCertificate, SpellsOldCertificate
 ghost use Rattle.uz_certificate_commands.specs.MigrateCommand.{AcceptsOldText, AcceptsText};
 
 use uz_cert::{Cert, text_is_unique, text_or_fault};
-use uz_scanlines::old_rules_accept_the_same;
+use uz_check::old_rules_accept_the_same;
 
 /// The law that a text of version 1 is accepted by the rules of that version exactly where the text of version 2 that `migrate` writes of
 /// it is accepted by today's, and so is each text of the same certificate. Does nothing.

@@ -6,12 +6,12 @@ ghost use Rattle.uz_shelf.specs.Faults.{Rose};
 ghost use Rattle.uz_files.specs.Endings.{EndsBy};
 ghost use Rattle.uz_certificate_commands.specs.PlayValues.{IsChecked, IsStart, PlayPreface};
 
+use crate::verdict_lines::refused;
 use std::alloc::{AllocError, Global};
 use uz_check::check;
 use uz_console::{Console, reset_is_in_range};
 use uz_files::{CertificateText, Ending, Failure, HexText, PadWords, Status, read_file};
 use uz_hex::Image;
-use uz_outcomes::refused;
 use uz_pads::Pad;
 use uz_schedule::Cert;
 use uz_shelf::Shelf;

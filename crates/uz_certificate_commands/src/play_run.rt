@@ -2,28 +2,28 @@
 
 ghost use Rattle.std.specs.Prelude.{◌≡◌, ◌≤◌, ◌⊎◌, List, Option, ℕ};
 ghost use Rattle.uz_console.specs.Consoles.{StandsFor, clock_of as console_clock};
-ghost use Rattle.uz_machine.specs.PadLine.{PadHistory};
-ghost use Rattle.uz_machine.specs.Turn.{State};
+ghost use Rattle.uz_core.specs.PadLine.{PadHistory};
+ghost use Rattle.uz_core.specs.Turn.{State};
 ghost use Rattle.uz_schedule.specs.WellFormed.{WellFormed};
 ghost use Rattle.uz_shelf.specs.Faults.{Rose};
 ghost use Rattle.uz_shelf.specs.Files.{FileMap, WritesFile};
 ghost use Rattle.uz_scan.specs.Pictures.{newest_first, records};
-ghost use Rattle.uz_machine.specs.declared.Edge.{Edge};
+ghost use Rattle.uz_core.specs.declared.machine.Edge.{Edge};
 ghost use Rattle.uz_files.specs.Answers.{ComesOf, MayCome, outside};
 ghost use Rattle.uz_certificate_commands.specs.PlayCommand.{FilesHalted, FilesPlayed, PlayAnswers, PlayParts};
-ghost use Rattle.uz_outcomes.specs.Runs.{IsFramedPart, IsFramedRun, framed};
-ghost use Rattle.uz_outcomes.specs.RunValues.{end_status, end_text};
+ghost use Rattle.uz_certificate_commands.specs.Runs.{IsFramedPart, IsFramedRun, framed};
+ghost use Rattle.uz_certificate_commands.specs.RunValues.{end_status, end_text};
 
 use crate::clocks::Clocks;
 use crate::play_command::{Start, start_play};
+use crate::run_lines::ending_of;
 use std::alloc::{AllocError, Global};
+use uz_check::played_runs_keep;
 use uz_console::Console;
 use uz_files::{Status, end_with, give_up};
-use uz_outcomes::ending_of;
 use uz_player::{Captured, capture};
 use uz_schedule::Cert;
 use uz_shelf::{Shelf, Sink, WriteError};
-use uz_soundness::played_runs_keep;
 
 /// Prints the lines of a run whose records are written.
 fn end_play<K: Sink>(alloc: Global, out: &mut K, captured: Captured) -> Status

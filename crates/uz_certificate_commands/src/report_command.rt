@@ -6,15 +6,15 @@ ghost use Rattle.uz_schedule.specs.declared.certificate.Cert.{Cert};
 ghost use Rattle.uz_shelf.specs.Faults.{Rose};
 ghost use Rattle.uz_files.specs.Answers.{NoPart, MayCome, outside};
 ghost use Rattle.uz_files.specs.Endings.{Gives, answer_of};
-ghost use Rattle.uz_outcomes.specs.CheckedValues.{IsChecked};
-ghost use Rattle.uz_outcomes.specs.PairFiles.{IsVerdict};
+ghost use Rattle.uz_certificate_commands.specs.CheckedValues.{IsChecked};
+ghost use Rattle.uz_certificate_commands.specs.PairFiles.{IsVerdict};
 ghost use Rattle.uz_report.specs.MainsTime.{MainsTimeTells};
 ghost use Rattle.uz_certificate_commands.specs.ReportCommand.{FilesReported, ReportAnswers, report_text};
 
+use crate::pair::{Checked, check_files};
 use crate::report_lines::report;
 use std::alloc::{AllocError, Global};
 use uz_files::{Ending, Failure, Status, finish};
-use uz_outcomes::{Checked, check_files};
 use uz_shelf::{Shelf, Sink};
 
 /// What is printed of a pair that was checked.

@@ -3,21 +3,21 @@
 ghost use Rattle.std.specs.Prelude.{◌≡◌, ◌≤◌, ◌⊎◌, IfOk};
 ghost use Rattle.uz_hex.specs.Reading.{Flash};
 ghost use Rattle.uz_schedule.specs.declared.certificate.Cert.{Cert as CertValue};
-ghost use Rattle.uz_soundness.specs.Certified.{Certified};
+ghost use Rattle.uz_check.specs.Certified.{Certified};
 ghost use Rattle.uz_shelf.specs.Faults.{Rose};
 ghost use Rattle.uz_files.specs.Answers.{NoPart, MayCome, outside};
 ghost use Rattle.uz_files.specs.Endings.{Gives, answer_of};
-ghost use Rattle.uz_outcomes.specs.CheckedValues.{IsChecked};
-ghost use Rattle.uz_outcomes.specs.PairFiles.{IsVerdict};
-ghost use Rattle.uz_timing.specs.Timing.{timing_text};
+ghost use Rattle.uz_certificate_commands.specs.CheckedValues.{IsChecked};
+ghost use Rattle.uz_certificate_commands.specs.PairFiles.{IsVerdict};
+ghost use Rattle.uz_report.specs.Timing.{timing_text};
 ghost use Rattle.uz_certificate_commands.specs.CheckCommand.{FilesCertified};
 ghost use Rattle.uz_certificate_commands.specs.TimingCommand.{TimingAnswers};
 
+use crate::pair::{Checked, check_files};
 use std::alloc::{AllocError, Global};
 use uz_files::{Ending, Failure, Status, finish};
-use uz_outcomes::{Checked, check_files};
+use uz_report::timing;
 use uz_shelf::{Shelf, Sink};
-use uz_timing::timing;
 
 /// What is printed of a pair that was checked.
 fn ending_of(alloc: Global, checked: Checked) -> Result<Ending, AllocError>

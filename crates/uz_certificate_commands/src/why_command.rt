@@ -2,7 +2,7 @@
 
 ghost use Rattle.std.specs.Prelude.{◌≡◌, ◌≤◌, ◌<◌, ◌⊎◌, ◌^◌, IfErr, IfOk, length};
 ghost use Rattle.uz_shelf.specs.Faults.{Rose};
-ghost use Rattle.uz_hints.specs.Faults.{HintRefusal};
+ghost use Rattle.uz_paths.specs.Faults.{HintRefusal};
 ghost use Rattle.uz_search.specs.declared.found.NotFound.TheVariants.{Hint as HintAt};
 ghost use Rattle.uz_paths.specs.Finding.{Cause};
 ghost use Rattle.uz_files.specs.Answers.{NoPart, MayCome, one_line, outside};
@@ -14,16 +14,16 @@ ghost use Rattle.uz_certificate_commands.specs.WhyCommand.{HintsLead, IsHintPart
 
 use crate::hint_lines::hint_text;
 use crate::hinted::{Hinted, read_hinted};
+use crate::search_lines::not_found;
+use crate::verdict_lines::accepted;
 use avr_asm::{SourceMap, source_map};
 use std::alloc::{AllocError, Global};
+use uz_check::soundness;
 use uz_explanations::{explain, flash_has_one_reading};
 use uz_files::{Ending, Failure, Status, finish};
-use uz_hints::broken_rule;
-use uz_outcomes::{accepted, not_found};
-use uz_paths::{NotFound, find};
+use uz_paths::{NotFound, broken_rule, find};
 use uz_schedule::Response;
 use uz_shelf::{Shelf, Sink};
-use uz_soundness::soundness;
 
 /// What is told of the hint of an index at which hints are refused. The flat lines of the hints are handed in.
 fn told_hint(

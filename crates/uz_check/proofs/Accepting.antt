@@ -12,12 +12,12 @@ use Rattle.uz_schedule.specs.declared.lines.Schedule.{Schedule as Frame}
 use Rattle.uz_schedule.specs.declared.states.Rest.{Rest}
 use Rattle.uz_schedule.specs.declared.states.Point.{Point}
 use Rattle.uz_schedule.specs.declared.certificate.Cert.{Cert}
-use Rattle.uz_transfer.specs.declared.fail.Fail.{Fail}
+use Rattle.uz_rules.specs.declared.fail.Fail.{Fail}
 use Rattle.uz_schedule.specs.Instances.{is_in_box}
-use Rattle.uz_soundness.specs.Steady.{IsSteady}
-use Rattle.uz_soundness.specs.FrameRules.{RestPasses, EntryPasses}
+use Rattle.uz_check.specs.Steady.{IsSteady}
+use Rattle.uz_check.specs.FrameRules.{RestPasses, EntryPasses}
 use Rattle.uz_rules.specs.Local.{IsLocal, OneLocal}
-use Rattle.uz_soundness.specs.Acceptance.{Accepts}
+use Rattle.uz_check.specs.Acceptance.{Accepts}
 use Rattle.uz_check.specs.declared.refusal.RefusedWhy.{RefusedWhy}
 use Rattle.uz_check.specs.declared.refusal.RefusedWhy.TheVariants.{Schedule, Rest as RestWhy, Entry as EntryWhy}
 use Rattle.uz_check.specs.Unsteady.{first_unsteady}

@@ -18,7 +18,7 @@ use Rattle.uz_schedule.specs.declared.lines.EventKind.TheVariants.{Sync, Pixel, 
 use Rattle.uz_schedule.specs.declared.lines.Schedule.{Schedule}
 use Rattle.uz_schedule.specs.declared.states.Rest.{Rest}
 use Rattle.uz_schedule.specs.declared.certificate.Cert.{Cert}
-use Rattle.uz_soundness.specs.FrameRules.{RestPasses, EntryPasses}
+use Rattle.uz_check.specs.FrameRules.{RestPasses, EntryPasses}
 use Rattle.uz_check.specs.FrameTests.{none_after, none_until, none_after_in, none_until_in, is_leave, leaves_at, is_quiet_rest, enters_at}
 use Rattle.uz_check.specs.FrameTests.{enters_always, rest_test, needs_no_rest, entry_test}
 use Rattle.uz_check.proofs.SteadyTold.{and_true}

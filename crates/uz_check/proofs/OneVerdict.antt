@@ -11,8 +11,8 @@ use Rattle.uz_schedule.specs.declared.lines.Schedule.{Schedule as Frame}
 use Rattle.uz_schedule.specs.declared.states.Rest.{Rest}
 use Rattle.uz_schedule.specs.declared.states.Point.{Point}
 use Rattle.uz_schedule.specs.declared.certificate.Cert.{Cert}
-use Rattle.uz_soundness.specs.Acceptance.{Accepts}
-use Rattle.uz_soundness.specs.FrameRules.{RestPasses}
+use Rattle.uz_check.specs.Acceptance.{Accepts}
+use Rattle.uz_check.specs.FrameRules.{RestPasses}
 use Rattle.uz_check.specs.declared.refusal.RefusedWhy.{RefusedWhy}
 use Rattle.uz_check.specs.declared.refusal.RefusedWhy.TheVariants.{Schedule, Point as PointWhy}
 use Rattle.uz_check.specs.Refusal.{Why, FirstOf, InTurn, ScheduleRefusal, RestRefusal, RestsRefusal, EntryRefusal, InstanceRefusal}

@@ -12,7 +12,7 @@ use Rattle.uz_schedule.specs.declared.lines.EventKind.{EventKind}
 use Rattle.uz_schedule.specs.declared.lines.EventKind.TheVariants.{Sync, Pixel, Sound, Leave}
 use Rattle.uz_schedule.specs.declared.lines.Schedule.{Schedule}
 use Rattle.uz_schedule.specs.Schedule.{events_of}
-use Rattle.uz_soundness.specs.Steady.{IsSteadyLine, IsSteady}
+use Rattle.uz_check.specs.Steady.{IsSteadyLine, IsSteady}
 use Rattle.uz_check.specs.Unsteady.{is_fall, second_fall, unsteady_clock, unsteady_in}
 use Rattle.uz_check.specs.Unsteady.{unsteady_line, at_line, unsteady_from, first_unsteady}
 

@@ -10,19 +10,19 @@ use Rattle.avr_table.specs.declared.Instr.{Instr}
 use Rattle.avr_table.specs.declared.Outcome.{Outcome}
 use Rattle.avr_table.specs.declared.Outcome.TheVariants.{Taken}
 use Rattle.avr_table.specs.Rows.{words_of, clocks_of}
-use Rattle.uz_machine.specs.declared.AddressMode.{AddressMode}
-use Rattle.uz_machine.specs.declared.AddressMode.TheVariants.{Direct, Displacement, PostIncrement, PreDecrement}
-use Rattle.uz_machine.specs.declared.BinaryOp.TheVariants as binary
-use Rattle.uz_machine.specs.declared.UnaryOp.TheVariants as unary
-use Rattle.uz_machine.specs.declared.Operand.TheVariants.{Register, Constant}
-use Rattle.uz_machine.specs.declared.SkipTest.TheVariants.{Equal, RegisterBit, IoBit}
-use Rattle.uz_machine.specs.declared.JumpTarget.TheVariants.{Absolute, Relative, Indirect}
-use Rattle.uz_machine.specs.declared.Effect.{Effect}
-use Rattle.uz_machine.specs.declared.Effect.TheVariants.{CopyByte, Binary, Unary, Load, Store, LoadProgram, Branch, SkipIf, Jump, Return}
-use Rattle.uz_machine.specs.declared.Effect.TheVariants.{Stop, NoOperation}
-use Rattle.uz_machine.specs.Core.{returns_from_interrupt, sample_clock}
-use Rattle.uz_machine.specs.Effects.{effect_of}
-use Rattle.uz_machine.proofs.RowClocks.{stops, clocks_within}
+use Rattle.uz_core.specs.declared.machine.AddressMode.{AddressMode}
+use Rattle.uz_core.specs.declared.machine.AddressMode.TheVariants.{Direct, Displacement, PostIncrement, PreDecrement}
+use Rattle.uz_core.specs.declared.machine.BinaryOp.TheVariants as binary
+use Rattle.uz_core.specs.declared.machine.UnaryOp.TheVariants as unary
+use Rattle.uz_core.specs.declared.machine.Operand.TheVariants.{Register, Constant}
+use Rattle.uz_core.specs.declared.machine.SkipTest.TheVariants.{Equal, RegisterBit, IoBit}
+use Rattle.uz_core.specs.declared.machine.JumpTarget.TheVariants.{Absolute, Relative, Indirect}
+use Rattle.uz_core.specs.declared.machine.Effect.{Effect}
+use Rattle.uz_core.specs.declared.machine.Effect.TheVariants.{CopyByte, Binary, Unary, Load, Store, LoadProgram, Branch, SkipIf, Jump, Return}
+use Rattle.uz_core.specs.declared.machine.Effect.TheVariants.{Stop, NoOperation}
+use Rattle.uz_core.specs.Core.{returns_from_interrupt, sample_clock}
+use Rattle.uz_core.specs.Effects.{effect_of}
+use Rattle.uz_core.proofs.RowClocks.{stops, clocks_within}
 use Rattle.uz_schedule.specs.Ends.{Ends}
 use Rattle.uz_schedule.specs.Lines.{Lines, line_after, clock_after}
 use Rattle.uz_schedule.specs.declared.facts.Val.{Val}
@@ -30,19 +30,19 @@ use Rattle.uz_schedule.specs.declared.header.Head.{Head}
 use Rattle.uz_schedule.specs.declared.lines.EventKind.{EventKind}
 use Rattle.uz_schedule.specs.declared.states.Instance.{Instance}
 use Rattle.uz_range.specs.Answers.{is_single}
-use Rattle.uz_transfer.specs.declared.fail.Fail.{Fail}
-use Rattle.uz_transfer.specs.declared.step.Exit.{Exit}
-use Rattle.uz_transfer.specs.declared.step.Step.{Step}
-use Rattle.uz_transfer.specs.Values.{span_of, value_at, with_flag_list}
-use Rattle.uz_transfer.specs.Kinds.{cell_place, is_main, is_handler}
-use Rattle.uz_transfer.specs.Memory.{address_range, with_pointer_range, flags_from, with_cell, stored_in}
-use Rattle.uz_transfer.specs.Transfer.{transfer}
-use Rattle.uz_transfer.specs.Exits.{outcomes, targets, each_exit}
-use Rattle.uz_transfer.specs.Emission.{emission, main_emits, level_after}
-use Rattle.uz_transfer.specs.Refusals.{fail_of}
-use Rattle.uz_transfer.specs.InTime.{keeps_time, sets_ahead, returns_with_top, is_in_time, clock_holds}
-use Rattle.uz_transfer.specs.Timer.{handler_stores, stores_top, top_after, temp_loaded, temp_after, with_timer}
-use Rattle.uz_transfer.specs.Step.{exits_of, clears_flag, following_of, sampled_of, step_unless, step_of, step_of_row, at_exit}
+use Rattle.uz_rules.specs.declared.fail.Fail.{Fail}
+use Rattle.uz_rules.specs.declared.step.Exit.{Exit}
+use Rattle.uz_rules.specs.declared.step.Step.{Step}
+use Rattle.uz_rules.specs.Values.{span_of, value_at, with_flag_list}
+use Rattle.uz_rules.specs.Kinds.{cell_place, is_main, is_handler}
+use Rattle.uz_rules.specs.Memory.{address_range, with_pointer_range, flags_from, with_cell, stored_in}
+use Rattle.uz_rules.specs.Transfer.{transfer}
+use Rattle.uz_rules.specs.Exits.{outcomes, targets, each_exit}
+use Rattle.uz_rules.specs.Emission.{emission, main_emits, level_after}
+use Rattle.uz_rules.specs.Refusals.{fail_of}
+use Rattle.uz_rules.specs.InTime.{keeps_time, sets_ahead, returns_with_top, is_in_time, clock_holds}
+use Rattle.uz_rules.specs.Timer.{handler_stores, stores_top, top_after, temp_loaded, temp_after, with_timer}
+use Rattle.uz_rules.specs.Step.{exits_of, clears_flag, following_of, sampled_of, step_unless, step_of, step_of_row, at_exit}
 use Rattle.uz_rules.specs.Local.{is_stop}
 
 -- the same instance at line m

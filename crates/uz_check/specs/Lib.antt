@@ -4,3 +4,15 @@ pub mod Pair
 pub mod FrameTests
 pub mod Folding
 pub mod Untold
+pub mod Claim
+pub mod Steady
+pub mod Certified
+pub mod Invariant
+pub mod Ways
+pub mod ReturnTimes
+pub mod Played
+pub mod FrameRules
+pub mod Acceptance
+pub mod Keeping
+pub mod ByPosition
+pub mod OldRules

@@ -2,8 +2,8 @@
 
 ghost use Rattle.std.specs.Prelude.{◌≡◌, ◌≤◌, ◌<◌, ◌+◌, ◌↔◌, ℕ, Some, None, IsNone, IfSome, IsOk, IfOk, IfErr};
 ghost use Rattle.uz_schedule.specs.WellFormed.{WellFormed};
-ghost use Rattle.uz_soundness.specs.Acceptance.{Accepts};
-ghost use Rattle.uz_soundness.specs.Certified.{Certified};
+ghost use Rattle.uz_check.specs.Acceptance.{Accepts};
+ghost use Rattle.uz_check.specs.Certified.{Certified};
 ghost use Rattle.uz_check.specs.Untold.{untold};
 ghost use Rattle.uz_check.specs.Refusal.{FirstRefusal, IsThere};
 
@@ -11,12 +11,12 @@ use crate::entering::entry_refusal;
 use crate::points::points_refusal;
 use crate::refusal::RefusedWhy;
 use crate::rests::rests_refusal;
+use crate::soundness;
 use crate::unsteady::schedule_refusal;
 use std::marker::Model;
 use uz_hex::Image;
 use uz_rules::local_is_unique;
 use uz_schedule::Cert;
-use uz_soundness::soundness;
 
 /// An image and a certificate that meet all rules. Only `check` makes one.
 #[derive(Drop)]
@@ -29,7 +29,7 @@ impl Model for Accepted {
     ghost use Rattle.std.specs.Prelude.{ℕ};
     ghost use Rattle.std.specs.Ordering.{nat_cmp};
     ghost use Rattle.uz_check.specs.Pair.{Pair};
-    ghost use Rattle.uz_soundness.specs.Acceptance.{Accepts};
+    ghost use Rattle.uz_check.specs.Acceptance.{Accepts};
     ghost use Rattle.uz_schedule.specs.WellFormed.{WellFormed};
     ghost use Rattle.std.specs.Coded.{codes, coded_ℕ};
     ghost use Rattle.std.specs.FinMap as map;

@@ -4,7 +4,7 @@ ghost use Rattle.std.specs.Prelude.{◌≡◌, ℕ, Option, None};
 ghost use Rattle.std.specs.Ordering.{nat_cmp};
 ghost use Rattle.std.specs.FinMap.{FinMap};
 ghost use Rattle.uz_schedule.specs.declared.certificate.Cert.{Cert};
-ghost use Rattle.uz_soundness.specs.Acceptance.{Accepts};
+ghost use Rattle.uz_check.specs.Acceptance.{Accepts};
 ghost use Rattle.uz_check.specs.declared.refusal.RefusedWhy.{RefusedWhy};
 ghost use Rattle.uz_check.specs.Refusal.{FirstRefusal};
 

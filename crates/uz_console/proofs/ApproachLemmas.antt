@@ -3,12 +3,12 @@ use Rattle.std.proofs.Common.{◌≡◌, ℕ, zero, suc, ◌<◌, ◌≤◌, nat
 use Rattle.std.proofs.Common.{arith}
 use Rattle.std.proofs.lemmas.Bool.{cases_lt}
 use Rattle.std.proofs.lemmas.List.Elements.{filter-append}
-use Rattle.uz_machine.specs.declared.Edge.{Edge}
-use Rattle.uz_machine.specs.PadLine.{PadHistory}
-use Rattle.uz_machine.specs.Space.{history_wiring}
-use Rattle.uz_machine.specs.Turn.{State}
-use Rattle.uz_machine.specs.Turn as machine
-use Rattle.uz_machine.specs.Run.{Run, TurnBefore, HasNoTurn, edges_until, IsClockRun, IsStoppedRun}
+use Rattle.uz_core.specs.declared.machine.Edge.{Edge}
+use Rattle.uz_core.specs.PadLine.{PadHistory}
+use Rattle.uz_core.specs.Space.{history_wiring}
+use Rattle.uz_core.specs.Turn.{State}
+use Rattle.uz_core.specs.Turn as machine
+use Rattle.uz_core.specs.Run.{Run, TurnBefore, HasNoTurn, edges_until, IsClockRun, IsStoppedRun}
 use Rattle.uz_core.specs.declared.step.Why.{Why}
 use Rattle.uz_pads.specs.declared.pads.Pads.{Pads}
 use Rattle.uz_schedule.specs.declared.certificate.Cert.{Cert}

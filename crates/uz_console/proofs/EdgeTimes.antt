@@ -1,12 +1,12 @@
 -- The clocks of a turn's edges lie between the clocks of its states.
 use Rattle.std.proofs.Common.{◌≡◌, ℕ, ◌+◌, ◌≤◌, nat_le, Bool, true, false, cond, List, [], ◌∷◌, ◌++◌, refl, sym, subst, inl, inr, arith}
 use Rattle.std.specs.Prelude.{filter}
-use Rattle.uz_machine.specs.declared.Edge.{Edge}
-use Rattle.uz_machine.specs.declared.EdgeKind.{EdgeKind}
-use Rattle.uz_machine.specs.PadLine.{PadHistory}
-use Rattle.uz_machine.specs.Space.{history_wiring}
-use Rattle.uz_machine.specs.Turn.{State, Turn, edges_at, entry_edges, instruction_edges}
-use Rattle.uz_machine.specs.Run.{edges_until}
+use Rattle.uz_core.specs.declared.machine.Edge.{Edge}
+use Rattle.uz_core.specs.declared.machine.EdgeKind.{EdgeKind}
+use Rattle.uz_core.specs.PadLine.{PadHistory}
+use Rattle.uz_core.specs.Space.{history_wiring}
+use Rattle.uz_core.specs.Turn.{State, Turn, edges_at, entry_edges, instruction_edges}
+use Rattle.uz_core.specs.Run.{edges_until}
 use Rattle.uz_console.specs.declared.console.Console.{Console}
 use Rattle.uz_console.specs.Consoles.{StandsFor, clock_of}
 use Rattle.uz_console.specs.Pages.{IsTimedPage}

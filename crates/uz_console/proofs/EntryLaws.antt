@@ -10,14 +10,14 @@ use Rattle.uz_schedule.specs.declared.states.Rest.{Rest}
 use Rattle.uz_schedule.specs.declared.certificate.Cert.{Cert}
 use Rattle.uz_schedule.specs.declared.kinds.Kind.{Kind}
 use Rattle.uz_schedule.specs.declared.kinds.Kind.TheVariants.{Main, Handler, Alone}
-use Rattle.uz_machine.specs.Arithmetic.{bit_is_set}
-use Rattle.uz_machine.specs.Core.{Core}
-use Rattle.uz_machine.specs.Timer.{Timer, is_counting}
-use Rattle.uz_machine.specs.PadLine.{PadHistory}
+use Rattle.uz_core.specs.Arithmetic.{bit_is_set}
+use Rattle.uz_core.specs.Core.{Core}
+use Rattle.uz_core.specs.Timer.{Timer, is_counting}
+use Rattle.uz_core.specs.PadLine.{PadHistory}
 use Rattle.uz_pads.specs.declared.pads.Pads.{Pads}
 use Rattle.uz_console.specs.Consoles.{StateStandsFor}
 use Rattle.uz_schedule.specs.Schedule.{At, length_of, frame_of, level_at, sync_at, last_level}
-use Rattle.uz_machine.specs.Turn.{State}
+use Rattle.uz_core.specs.Turn.{State}
 use Rattle.uz_schedule.specs.Tracked.{tracked}
 use Rattle.uz_console.specs.Entry.{CellsHold, TimerWaits, BeginsMain, Begins, EntryCondition}
 use Rattle.uz_console.specs.Entering.{IsFirstEntry, RegistersMatch, FlagsMatch, StackMatches, IsLeast, lesser, lesser_of, LevelMatches}

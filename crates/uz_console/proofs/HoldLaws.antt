@@ -1,7 +1,7 @@
 -- A console that holds buttons stands for the states in which they are held.
 use Rattle.std.proofs.Common.{ℕ, ◌<◌, ◌≤◌, length, sym, ◌∙◌, ap}
-use Rattle.uz_machine.specs.PadLine.{PadHistory, latches}
-use Rattle.uz_machine.specs.Turn.{State}
+use Rattle.uz_core.specs.PadLine.{PadHistory, latches}
+use Rattle.uz_core.specs.Turn.{State}
 use Rattle.uz_pads.specs.declared.pads.Pad.{Pad}
 use Rattle.uz_pads.proofs.Holding.{holds, is_within}
 use Rattle.uz_schedule.specs.Schedule.{response_clocks}

@@ -3,16 +3,16 @@ use Rattle.std.proofs.Common.{◌≡◌, ℕ, zero, suc, ◌+◌, ◌<◌, ◌�
 use Rattle.std.proofs.Common.{append-nil, refl, sym, ◌∙◌, ap, subst, inl, inr, arith, add_assoc}
 use Rattle.std.proofs.lemmas.List.Elements.{filter-append}
 use Rattle.std.specs.Prelude.{nat_le}
-use Rattle.uz_machine.specs.declared.Edge.{Edge}
-use Rattle.uz_machine.specs.declared.EdgeKind.TheVariants.{Leave}
-use Rattle.uz_machine.specs.Arithmetic.{bit_is_set}
-use Rattle.uz_machine.specs.Core.{Core, StepResult}
-use Rattle.uz_machine.specs.Timer.{Timer, is_counting, is_due, timer_after, count_after, matches_within}
-use Rattle.uz_machine.specs.PadLine.{PadHistory}
-use Rattle.uz_machine.specs.Space.{Space, history_wiring, space_after, space_loads}
-use Rattle.uz_machine.specs.Turn.{State, is_entry, state_after, after_instruction, instruction_edges, edges_at, all_edge_kinds}
-use Rattle.uz_machine.specs.Turn as machine
-use Rattle.uz_machine.specs.Run.{IsRunPart, edges_until}
+use Rattle.uz_core.specs.declared.machine.Edge.{Edge}
+use Rattle.uz_core.specs.declared.machine.EdgeKind.TheVariants.{Leave}
+use Rattle.uz_core.specs.Arithmetic.{bit_is_set}
+use Rattle.uz_core.specs.Core.{Core, StepResult}
+use Rattle.uz_core.specs.Timer.{Timer, is_counting, is_due, timer_after, count_after, matches_within}
+use Rattle.uz_core.specs.PadLine.{PadHistory}
+use Rattle.uz_core.specs.Space.{Space, history_wiring, space_after, space_loads}
+use Rattle.uz_core.specs.Turn.{State, is_entry, state_after, after_instruction, instruction_edges, edges_at, all_edge_kinds}
+use Rattle.uz_core.specs.Turn as machine
+use Rattle.uz_core.specs.Run.{IsRunPart, edges_until}
 use Rattle.uz_timer.proofs.Counting.{clocks_add}
 use Rattle.uz_core.specs.Internals.{IsInternalStep, InternalRun, RunsInternally}
 use Rattle.uz_core.proofs.InternalSteps.{run_keeps_enabled}

@@ -2,12 +2,12 @@
 use Rattle.std.proofs.Common.{◌≡◌, ◌≢◌, ℕ, ◌+◌, ◌<◌, ◌≤◌, List, [], ◌∷◌, refl, sym, ◌∙◌, ap, subst, arith}
 use Rattle.std.proofs.Common.{inl, inr}
 use Rattle.std.proofs.lemmas.Bool.{cases_lt}
-use Rattle.uz_machine.specs.declared.Edge.{Edge}
-use Rattle.uz_machine.specs.Core.{Core}
-use Rattle.uz_machine.specs.PadLine.{PadHistory}
-use Rattle.uz_machine.specs.Space.{history_wiring}
-use Rattle.uz_machine.specs.Turn.{State}
-use Rattle.uz_machine.specs.Turn as machine
+use Rattle.uz_core.specs.declared.machine.Edge.{Edge}
+use Rattle.uz_core.specs.Core.{Core}
+use Rattle.uz_core.specs.PadLine.{PadHistory}
+use Rattle.uz_core.specs.Space.{history_wiring}
+use Rattle.uz_core.specs.Turn.{State}
+use Rattle.uz_core.specs.Turn as machine
 use Rattle.uz_console.specs.declared.console.Console.{Console}
 use Rattle.uz_console.specs.declared.turn.Made.{Made}
 use Rattle.uz_console.specs.declared.turn.Made.TheVariants as made

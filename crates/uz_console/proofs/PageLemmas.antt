@@ -1,11 +1,11 @@
 -- A run of so many clocks, a page of edges at a time.
 use Rattle.std.proofs.Common.{◌≡◌, ℕ, ◌<◌, List, [], ◌++◌, append_assoc, append-nil, refl, sym, subst}
-use Rattle.uz_machine.specs.declared.Edge.{Edge}
-use Rattle.uz_machine.specs.PadLine.{PadHistory}
-use Rattle.uz_machine.specs.Space.{history_wiring}
-use Rattle.uz_machine.specs.Turn.{State}
-use Rattle.uz_machine.specs.Turn as machine
-use Rattle.uz_machine.specs.Run.{edges_until}
+use Rattle.uz_core.specs.declared.machine.Edge.{Edge}
+use Rattle.uz_core.specs.PadLine.{PadHistory}
+use Rattle.uz_core.specs.Space.{history_wiring}
+use Rattle.uz_core.specs.Turn.{State}
+use Rattle.uz_core.specs.Turn as machine
+use Rattle.uz_core.specs.Run.{edges_until}
 use Rattle.uz_console.specs.declared.console.Console.{Console}
 use Rattle.uz_console.specs.declared.paging.Paged.{Paged}
 use Rattle.uz_console.specs.declared.paging.Paged.TheVariants as paging

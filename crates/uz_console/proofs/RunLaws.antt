@@ -1,11 +1,11 @@
 -- A state has at most one turn, and at most one run of so many clocks.
 use Rattle.std.proofs.Common.{◌≡◌, ℕ, zero, suc, ◌<◌, ◌≤◌, true, false, List, ◌++◌, ◌⊎◌, sym, ◌∙◌, ap, subst, inl, inr, arith}
 use Rattle.avr_decode.proofs.Unique.{unique}
-use Rattle.uz_machine.specs.declared.Edge.{Edge}
-use Rattle.uz_machine.specs.PadLine.{PadHistory}
-use Rattle.uz_machine.specs.Space.{history_wiring}
-use Rattle.uz_machine.specs.Turn.{State, is_entry, after_instruction, instruction_edges, Turn}
-use Rattle.uz_machine.specs.Run.{Run, TurnBefore, HasNoTurn, edges_until, IsRunPart, IsClockRun, IsStoppedRun}
+use Rattle.uz_core.specs.declared.machine.Edge.{Edge}
+use Rattle.uz_core.specs.PadLine.{PadHistory}
+use Rattle.uz_core.specs.Space.{history_wiring}
+use Rattle.uz_core.specs.Turn.{State, is_entry, after_instruction, instruction_edges, Turn}
+use Rattle.uz_core.specs.Run.{Run, TurnBefore, HasNoTurn, edges_until, IsRunPart, IsClockRun, IsStoppedRun}
 
 pub turn_is_unique : (s n1 n2 : State PadHistory) (e1 e2 : List Edge) → Turn history_wiring s e1 n1 → Turn history_wiring s e2 n2
     → (e1 ≡ e2) × (n1 ≡ n2)

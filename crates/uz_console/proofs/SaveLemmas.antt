@@ -1,19 +1,19 @@
 -- A copy stands for what its console stands for, and a save state that is loaded for the state that was saved.
 use Rattle.std.proofs.Common.{◌≡◌, ℕ, zero, suc, ◌^◌, Bool, true, false, nat_eq, nat_lt, if◌then◌else◌, List, [], ◌∷◌, refl, sym, ◌∙◌, ap}
 use Rattle.std.proofs.Common.{subst, inl, inr}
-use Rattle.uz_machine.specs.declared.HeldStore.{HeldStore}
-use Rattle.uz_machine.specs.declared.HeldStore.TheVariants.{Byte, Bit}
-use Rattle.uz_machine.specs.Arithmetic.{with_bit}
-use Rattle.uz_machine.specs.declared.Edge.{Edge}
-use Rattle.uz_machine.specs.PadLine.{PadHistory}
+use Rattle.uz_core.specs.declared.machine.HeldStore.{HeldStore}
+use Rattle.uz_core.specs.declared.machine.HeldStore.TheVariants.{Byte, Bit}
+use Rattle.uz_core.specs.Arithmetic.{with_bit}
+use Rattle.uz_core.specs.declared.machine.Edge.{Edge}
+use Rattle.uz_core.specs.PadLine.{PadHistory}
 use Rattle.avr_table.specs.Rows.{clocks_of}
-use Rattle.uz_machine.specs.Core.{Core, content_after_loads, interrupted_core, is_core_address, load_addresses, sample_clock}
-use Rattle.uz_machine.specs.Effects.{effect_of}
-use Rattle.uz_machine.specs.Space.{Space, history_wiring, is_pin, takes_one_bit, byte_at, space_after, space_loads, space_taken, after_byte}
-use Rattle.uz_machine.specs.Space.{after_store}
-use Rattle.uz_machine.specs.Timer.{is_timer_address}
-use Rattle.uz_machine.specs.Turn.{State, state_after, after_stores, entry_stores, instruction_result, Turn}
-use Rattle.uz_machine.specs.Run.{MachineTurn, Run}
+use Rattle.uz_core.specs.Core.{Core, content_after_loads, interrupted_core, is_core_address, load_addresses, sample_clock}
+use Rattle.uz_core.specs.Effects.{effect_of}
+use Rattle.uz_core.specs.Space.{Space, history_wiring, is_pin, takes_one_bit, byte_at, space_after, space_loads, space_taken, after_byte}
+use Rattle.uz_core.specs.Space.{after_store}
+use Rattle.uz_core.specs.Timer.{is_timer_address}
+use Rattle.uz_core.specs.Turn.{State, state_after, after_stores, entry_stores, instruction_result, Turn}
+use Rattle.uz_core.specs.Run.{MachineTurn, Run}
 use Rattle.uz_pads.specs.declared.pads.Pads.{Pads}
 use Rattle.uz_pads.specs.Pads as pads
 use Rattle.uz_pads.specs.Pads.{list_of, pad_state_of, pairs_of}

@@ -8,28 +8,28 @@ use Rattle.std.proofs.lemmas.Bool.Decides.{nat_tests}
 use Rattle.avr_table.specs.declared.Instr.{Instr}
 use Rattle.avr_table.specs.declared.Outcome.{Outcome}
 use Rattle.avr_table.specs.Rows.{words_of, clocks_of}
-use Rattle.uz_machine.specs.declared.HeldStore.{HeldStore}
-use Rattle.uz_machine.specs.declared.Edge.{Edge}
+use Rattle.uz_core.specs.declared.machine.HeldStore.{HeldStore}
+use Rattle.uz_core.specs.declared.machine.Edge.{Edge}
 use Rattle.uz_schedule.specs.declared.kinds.Response.{Response}
 use Rattle.uz_schedule.specs.declared.kinds.Response.TheVariants.{Four, Five}
 use Rattle.uz_schedule.specs.Schedule.{response_clocks}
-use Rattle.uz_machine.specs.declared.Effect.{Effect}
-use Rattle.uz_machine.specs.declared.Effect.TheVariants.{Stop}
-use Rattle.uz_machine.specs.Arithmetic.{bit_is_set}
-use Rattle.uz_machine.specs.Timer.{is_due}
-use Rattle.uz_machine.specs.Run.{HasNoTurn}
-use Rattle.uz_machine.proofs.RowClocks.{stops, clocks_within}
-use Rattle.uz_machine.specs.Effects.{effect_of}
-use Rattle.uz_machine.specs.Core.{Core, step_result, outcome_of, loaded_bytes, sample_clock, load_addresses, is_core_address, core_byte}
-use Rattle.uz_machine.specs.PadLine.{PadHistory}
-use Rattle.uz_machine.specs.Space.{Space, history_wiring, space_after, space_loads, byte_at}
-use Rattle.uz_machine.specs.Turn.{State, state_byte, is_entry, after_entry, entry_edges, after_instruction, instruction_edges, IsEntryTurn}
-use Rattle.uz_machine.specs.Turn.{IsInstructionTurn}
-use Rattle.uz_machine.specs.Turn.{after_stores, all_edge_kinds, edges_at}
-use Rattle.uz_machine.specs.declared.EdgeKind.TheVariants.{Leave}
-use Rattle.uz_machine.specs.Turn as machine
-use Rattle.uz_machine.proofs.LoadModels.{LoadAlike, ResultAlike, same_effect_result}
-use Rattle.uz_machine.proofs.Wirings.{SpaceAlike, TurnAlike, same_byte, turn_alike, with_space}
+use Rattle.uz_core.specs.declared.machine.Effect.{Effect}
+use Rattle.uz_core.specs.declared.machine.Effect.TheVariants.{Stop}
+use Rattle.uz_core.specs.Arithmetic.{bit_is_set}
+use Rattle.uz_core.specs.Timer.{is_due}
+use Rattle.uz_core.specs.Run.{HasNoTurn}
+use Rattle.uz_core.proofs.RowClocks.{stops, clocks_within}
+use Rattle.uz_core.specs.Effects.{effect_of}
+use Rattle.uz_core.specs.Core.{Core, step_result, outcome_of, loaded_bytes, sample_clock, load_addresses, is_core_address, core_byte}
+use Rattle.uz_core.specs.PadLine.{PadHistory}
+use Rattle.uz_core.specs.Space.{Space, history_wiring, space_after, space_loads, byte_at}
+use Rattle.uz_core.specs.Turn.{State, state_byte, is_entry, after_entry, entry_edges, after_instruction, instruction_edges, IsEntryTurn}
+use Rattle.uz_core.specs.Turn.{IsInstructionTurn}
+use Rattle.uz_core.specs.Turn.{after_stores, all_edge_kinds, edges_at}
+use Rattle.uz_core.specs.declared.machine.EdgeKind.TheVariants.{Leave}
+use Rattle.uz_core.specs.Turn as machine
+use Rattle.uz_core.proofs.LoadModels.{LoadAlike, ResultAlike, same_effect_result}
+use Rattle.uz_core.proofs.Wirings.{SpaceAlike, TurnAlike, same_byte, turn_alike, with_space}
 use Rattle.uz_core.specs.Steps.{IsInstruction, IsStep}
 use Rattle.uz_core.specs.declared.step.Why.{Why}
 use Rattle.uz_core.specs.declared.step.Why.TheVariants.{Opcode, Spm}

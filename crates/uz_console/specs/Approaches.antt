@@ -1,10 +1,10 @@
 -- Runs of so many clocks up to the first state that meets the entry condition of a certificate.
 use Rattle.std.specs.Prelude.{◌≡◌, ℕ, ◌<◌, ◌≤◌, List, ◌++◌}
 use Rattle.uz_schedule.specs.declared.certificate.Cert.{Cert}
-use Rattle.uz_machine.specs.declared.Edge.{Edge}
-use Rattle.uz_machine.specs.PadLine.{PadHistory}
-use Rattle.uz_machine.specs.Turn.{State}
-use Rattle.uz_machine.specs.Run.{Run, TurnBefore, IsRunPart, IsClockRun, IsStoppedRun}
+use Rattle.uz_core.specs.declared.machine.Edge.{Edge}
+use Rattle.uz_core.specs.PadLine.{PadHistory}
+use Rattle.uz_core.specs.Turn.{State}
+use Rattle.uz_core.specs.Run.{Run, TurnBefore, IsRunPart, IsClockRun, IsStoppedRun}
 use Rattle.uz_console.specs.declared.console.Console.{Console}
 use Rattle.uz_console.specs.declared.approach.Approach.{Approach}
 use Rattle.uz_console.specs.declared.approach.Approach.TheVariants.{Took, Entered, Over, Stopped}

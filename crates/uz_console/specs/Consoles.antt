@@ -1,8 +1,8 @@
 -- The state that a console is, and the states of the machine that it stands for.
 use Rattle.std.specs.Prelude.{◌≡◌, ℕ}
 use Rattle.uz_schedule.specs.Schedule.{response_clocks}
-use Rattle.uz_machine.specs.PadLine.{PadHistory}
-use Rattle.uz_machine.specs.Turn.{State}
+use Rattle.uz_core.specs.PadLine.{PadHistory}
+use Rattle.uz_core.specs.Turn.{State}
 use Rattle.uz_pads.specs.declared.pads.Pads.{Pads}
 use Rattle.uz_pads.specs.Pads as pads
 use Rattle.uz_ports.specs.Boards as board

@@ -8,9 +8,9 @@ use Rattle.uz_schedule.specs.declared.lines.Schedule.{Schedule}
 use Rattle.uz_schedule.specs.declared.states.Rest.{Rest}
 use Rattle.uz_schedule.specs.declared.certificate.Cert.{Cert}
 use Rattle.uz_schedule.specs.Schedule.{start_of, frame_of, length_of, level_at, response_clocks}
-use Rattle.uz_machine.specs.Arithmetic.{bit_is_set}
-use Rattle.uz_machine.specs.Core.{Core, register}
-use Rattle.uz_machine.specs.Turn.{State, sync_level}
+use Rattle.uz_core.specs.Arithmetic.{bit_is_set}
+use Rattle.uz_core.specs.Core.{Core, register}
+use Rattle.uz_core.specs.Turn.{State, sync_level}
 use Rattle.uz_schedule.specs.Tracked.{tracked}
 use Rattle.uz_console.specs.Entry.{IsIn, BitHolds, ends_at, flag_at, CellsHold, TimerWaits, BeginsAlone, EntryCondition}
 

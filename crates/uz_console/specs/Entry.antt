@@ -12,10 +12,10 @@ use Rattle.uz_schedule.specs.declared.states.Rest.{Rest}
 use Rattle.uz_schedule.specs.declared.certificate.Cert.{Cert}
 use Rattle.uz_schedule.specs.Schedule.{At, length_of, level_at, response_clocks}
 use Rattle.uz_schedule.specs.Tracked.{tracked}
-use Rattle.uz_machine.specs.Arithmetic.{bit_is_set}
-use Rattle.uz_machine.specs.Core.{register}
-use Rattle.uz_machine.specs.Timer.{is_counting}
-use Rattle.uz_machine.specs.Turn.{State, sync_level}
+use Rattle.uz_core.specs.Arithmetic.{bit_is_set}
+use Rattle.uz_core.specs.Core.{register}
+use Rattle.uz_core.specs.Timer.{is_counting}
+use Rattle.uz_core.specs.Turn.{State, sync_level}
 
 -- What is known of bytes, flags and cells
 

@@ -1,7 +1,7 @@
 -- Buttons that are held.
 use Rattle.std.specs.Prelude.{◌≡◌, ℕ}
-use Rattle.uz_machine.specs.PadLine.{PadHistory}
-use Rattle.uz_machine.specs.Turn.{State}
+use Rattle.uz_core.specs.PadLine.{PadHistory}
+use Rattle.uz_core.specs.Turn.{State}
 use Rattle.uz_pads.specs.declared.pads.Pad.{Pad}
 use Rattle.uz_pads.specs.Pads as pads
 use Rattle.uz_ports.specs.BoardStates.{HoldsPad}

@@ -1,9 +1,9 @@
 -- Runs of so many clocks, of which a console has made a part.
 use Rattle.std.specs.Prelude.{ℕ, ◌≤◌, List, [], ◌∷◌}
-use Rattle.uz_machine.specs.declared.Edge.{Edge}
-use Rattle.uz_machine.specs.PadLine.{PadHistory}
-use Rattle.uz_machine.specs.Turn.{State}
-use Rattle.uz_machine.specs.Run.{IsRunPart, IsClockRun}
+use Rattle.uz_core.specs.declared.machine.Edge.{Edge}
+use Rattle.uz_core.specs.PadLine.{PadHistory}
+use Rattle.uz_core.specs.Turn.{State}
+use Rattle.uz_core.specs.Run.{IsRunPart, IsClockRun}
 use Rattle.uz_console.specs.declared.console.Console.{Console}
 use Rattle.uz_console.specs.Consoles.{StandsFor}
 

@@ -1,8 +1,8 @@
 -- Copies of a console, and save states.
 use Rattle.std.specs.Prelude.{◌≡◌, ℕ, List, Bool}
-use Rattle.uz_machine.specs.Core.{Core}
-use Rattle.uz_machine.specs.PadLine.{PadHistory}
-use Rattle.uz_machine.specs.Turn.{State}
+use Rattle.uz_core.specs.Core.{Core}
+use Rattle.uz_core.specs.PadLine.{PadHistory}
+use Rattle.uz_core.specs.Turn.{State}
 use Rattle.uz_pads.specs.declared.pads.Pad.{Pad}
 use Rattle.uz_pads.specs.declared.pads.Pads.{Pads}
 use Rattle.uz_pads.specs.Pads.{pad_state_of, with_pad_state}

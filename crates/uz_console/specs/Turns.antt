@@ -4,16 +4,16 @@ use Rattle.std.specs.Ordering.{nat_cmp}
 use Rattle.std.specs.FinMap.{FinMap}
 use Rattle.uz_hex.specs.Cells.{word_of}
 use Rattle.avr_table.specs.declared.Instr.{Instr}
-use Rattle.uz_machine.specs.declared.HeldStore.{HeldStore}
-use Rattle.uz_machine.specs.declared.Edge.{Edge}
-use Rattle.uz_machine.specs.declared.Effect.TheVariants.{Stop}
-use Rattle.uz_machine.specs.Core.{Core, step_result}
-use Rattle.uz_machine.specs.Effects.{effect_of}
-use Rattle.uz_machine.specs.PadLine.{PadHistory}
-use Rattle.uz_machine.specs.Space.{history_wiring, space_loads}
-use Rattle.uz_machine.specs.Turn.{State, is_entry, after_instruction, instruction_edges}
-use Rattle.uz_machine.specs.Turn as machine
-use Rattle.uz_machine.specs.Run.{HasNoTurn}
+use Rattle.uz_core.specs.declared.machine.HeldStore.{HeldStore}
+use Rattle.uz_core.specs.declared.machine.Edge.{Edge}
+use Rattle.uz_core.specs.declared.machine.Effect.TheVariants.{Stop}
+use Rattle.uz_core.specs.Core.{Core, step_result}
+use Rattle.uz_core.specs.Effects.{effect_of}
+use Rattle.uz_core.specs.PadLine.{PadHistory}
+use Rattle.uz_core.specs.Space.{history_wiring, space_loads}
+use Rattle.uz_core.specs.Turn.{State, is_entry, after_instruction, instruction_edges}
+use Rattle.uz_core.specs.Turn as machine
+use Rattle.uz_core.specs.Run.{HasNoTurn}
 use Rattle.uz_core.specs.Steps.{ReadsHere, IsInstruction}
 use Rattle.uz_core.specs.declared.step.Why.{Why}
 use Rattle.uz_core.specs.declared.step.Why.TheVariants.{Opcode, Spm}

@@ -1,15 +1,14 @@
 //! Runs of so many clocks up to the first state that meets the entry condition of a certificate.
 
 ghost use Rattle.std.specs.Prelude.{◌≡◌, ◌≤◌, ◌^◌, IsTrue};
-ghost use Rattle.uz_machine.specs.Run.{edges_until};
+ghost use Rattle.uz_core.specs.Run.{edges_until};
 ghost use Rattle.uz_schedule.specs.WellFormed.{WellFormed};
 ghost use Rattle.uz_console.specs.Approaches.{ApproachIsTimed, ApproachMovesOn, IsApproach};
 
 use crate::Console;
 use crate::turn::{Made, put};
 use arrayvec::ArrayVec;
-use uz_core::Why;
-use uz_machine::Edge;
+use uz_core::{Edge, Why};
 use uz_schedule::Cert;
 
 /// How a run goes on to the first state that meets an entry condition.

@@ -3,17 +3,17 @@
 ghost use Rattle.std.specs.Prelude.{◌≡◌, ◌<◌, [], ℕ, IfOk, None};
 ghost use Rattle.uz_schedule.specs.Schedule.{response_clocks};
 ghost use Rattle.uz_hex.specs.Cells.{word_of};
-ghost use Rattle.uz_machine.specs.PadLine.{PadHistory};
-ghost use Rattle.uz_machine.specs.Core.{register};
-ghost use Rattle.uz_machine.specs.Space.{history_wiring};
-ghost use Rattle.uz_machine.specs.Turn.{State, state_at_reset, history_at_reset, state_byte};
+ghost use Rattle.uz_core.specs.PadLine.{PadHistory};
+ghost use Rattle.uz_core.specs.Core.{register};
+ghost use Rattle.uz_core.specs.Space.{history_wiring};
+ghost use Rattle.uz_core.specs.Turn.{State, state_at_reset, history_at_reset, state_byte};
 ghost use Rattle.uz_pads.specs.Pads.{pairs_of, pads_wiring};
 ghost use Rattle.uz_ports.specs.Boards.{held_of, entered_of};
 
 use std::alloc::{AllocError, Global};
+use uz_core::address::{IO_BASE, SPH, SPL, SREG};
 use uz_core::{Cpu, Program};
 use uz_hex::Image;
-use uz_machine::address::{IO_BASE, SPH, SPL, SREG};
 use uz_pads::{Pad, Pads};
 use uz_ports::Board;
 use uz_schedule::Response;

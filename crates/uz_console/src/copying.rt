@@ -1,10 +1,10 @@
 //! Copies of a console, and save states.
 
 ghost use Rattle.std.specs.Prelude.{◌≡◌, ℕ, List, IfOk};
-ghost use Rattle.uz_machine.specs.declared.Edge.{Edge};
-ghost use Rattle.uz_machine.specs.Run.{MachineTurn, Run};
-ghost use Rattle.uz_machine.specs.PadLine.{PadHistory};
-ghost use Rattle.uz_machine.specs.Turn.{State};
+ghost use Rattle.uz_core.specs.declared.machine.Edge.{Edge};
+ghost use Rattle.uz_core.specs.Run.{MachineTurn, Run};
+ghost use Rattle.uz_core.specs.PadLine.{PadHistory};
+ghost use Rattle.uz_core.specs.Turn.{State};
 ghost use Rattle.uz_console.specs.Consoles.{StandsFor, clock_of, state_of};
 ghost use Rattle.uz_console.specs.SaveStates.{IsSaveOf, IsSameConsole, SameConsole, clock_saved, saved, saved_of, with_saved};
 

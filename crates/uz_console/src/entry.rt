@@ -5,9 +5,9 @@ ghost use Rattle.uz_schedule.specs.Limits.{ScheduleFits};
 ghost use Rattle.uz_schedule.specs.Schedule.{frame_of};
 ghost use Rattle.uz_schedule.specs.Tracked.{tracked};
 ghost use Rattle.uz_schedule.specs.WellFormed.{WellFormed};
-ghost use Rattle.uz_machine.specs.Arithmetic.{bit_is_set};
-ghost use Rattle.uz_machine.specs.PadLine.{PadHistory};
-ghost use Rattle.uz_machine.specs.Turn.{State};
+ghost use Rattle.uz_core.specs.Arithmetic.{bit_is_set};
+ghost use Rattle.uz_core.specs.PadLine.{PadHistory};
+ghost use Rattle.uz_core.specs.Turn.{State};
 ghost use Rattle.uz_console.specs.Consoles.{StandsFor, state_of};
 ghost use Rattle.uz_console.specs.Entry.{BitHolds, CellsHold, EntryCondition, IsIn, TimerWaits};
 ghost use Rattle.uz_console.specs.Entry.{NotEntered};
@@ -16,8 +16,7 @@ ghost use Rattle.uz_console.specs.Entering.{LevelMatches, MatchesEntry, Register
 ghost use Rattle.uz_console.specs.Entering.{lesser as lesser_position, position_of};
 
 use crate::Console;
-use uz_cert_limits::well_formed;
-use uz_schedule::{Bit, Cert, Head, Kind, Rest, Schedule, Span, tracks};
+use uz_schedule::{Bit, Cert, Head, Kind, Rest, Schedule, Span, tracks, well_formed};
 
 /// PORTB, whose bit 0 is the sync level.
 const PORTB: u16 = 0x25;

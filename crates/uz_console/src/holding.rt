@@ -1,8 +1,8 @@
 //! Buttons that are held.
 
 ghost use Rattle.std.specs.Prelude.{◌≡◌, ◌≤◌, ◌<◌, length};
-ghost use Rattle.uz_machine.specs.PadLine.{PadHistory, latches};
-ghost use Rattle.uz_machine.specs.Turn.{State};
+ghost use Rattle.uz_core.specs.PadLine.{PadHistory, latches};
+ghost use Rattle.uz_core.specs.Turn.{State};
 ghost use Rattle.uz_pads.specs.Pads.{times_held};
 ghost use Rattle.uz_console.specs.Consoles.{StandsFor, clock_of};
 ghost use Rattle.uz_console.specs.Holding.{IsHeld, holding_state, pads_left};

@@ -6,12 +6,12 @@ ghost use Rattle.std.specs.FinMap.{FinMap};
 ghost use Rattle.uz_schedule.specs.Schedule.{response_clocks};
 ghost use Rattle.uz_schedule.specs.declared.kinds.Response.{Response};
 ghost use Rattle.uz_hex.specs.Cells.{IsFlash};
-ghost use Rattle.uz_machine.specs.declared.Edge.{Edge};
-ghost use Rattle.uz_machine.specs.PadLine.{PadHistory};
-ghost use Rattle.uz_machine.specs.Space.{history_wiring};
-ghost use Rattle.uz_machine.specs.Turn.{State, Turn, state_at_reset, history_at_reset};
-ghost use Rattle.uz_machine.specs.Run.{Run, MachineTurn, IsRunPart, IsClockRun, IsStoppedRun};
-ghost use Rattle.uz_machine.specs.StateRange.{IsState};
+ghost use Rattle.uz_core.specs.declared.machine.Edge.{Edge};
+ghost use Rattle.uz_core.specs.PadLine.{PadHistory};
+ghost use Rattle.uz_core.specs.Space.{history_wiring};
+ghost use Rattle.uz_core.specs.Turn.{State, Turn, state_at_reset, history_at_reset};
+ghost use Rattle.uz_core.specs.Run.{Run, MachineTurn, IsRunPart, IsClockRun, IsStoppedRun};
+ghost use Rattle.uz_core.specs.StateRange.{IsState};
 
 /// The law that a state has at most one turn. Does nothing.
 pub fn turn_is_unique()

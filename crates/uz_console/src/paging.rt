@@ -2,14 +2,13 @@
 
 ghost use Rattle.std.specs.Prelude.{◌≡◌, ◌<◌, ◌≤◌, ◌+◌, ◌^◌, ◌∷◌, [], ◌++◌, length};
 ghost use Rattle.arrayvec.specs.ArrayVec.{array_vec_len};
-ghost use Rattle.uz_machine.specs.Run.{edges_until};
+ghost use Rattle.uz_core.specs.Run.{edges_until};
 ghost use Rattle.uz_console.specs.Pages.{HasFewEdges, IsPage, IsTimedPage, PageIsFull, PageMovesOn};
 
 use crate::Console;
 use crate::turn::{Made, NOWHERE};
 use arrayvec::ArrayVec;
-use uz_core::Why;
-use uz_machine::Edge;
+use uz_core::{Edge, Why};
 
 /// So many edges have room in a page.
 pub const PAGE: usize = 64;

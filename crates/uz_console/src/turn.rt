@@ -1,9 +1,9 @@
 //! One turn.
 
 ghost use Rattle.std.specs.Prelude.{◌≡◌, ◌<◌, ◌≤◌, ◌+◌, ◌^◌, [], ◌∷◌, ◌++◌, false, None, if◌then◌else◌};
-ghost use Rattle.uz_machine.specs.Space.{space_after};
-ghost use Rattle.uz_machine.specs.Turn.{is_entry, after_entry, entry_edges, after_stores, edges_at, all_edge_kinds};
-ghost use Rattle.uz_machine.specs.declared.EdgeKind.TheVariants.{Leave};
+ghost use Rattle.uz_core.specs.Space.{space_after};
+ghost use Rattle.uz_core.specs.Turn.{is_entry, after_entry, entry_edges, after_stores, edges_at, all_edge_kinds};
+ghost use Rattle.uz_core.specs.declared.machine.EdgeKind.TheVariants.{Leave};
 ghost use Rattle.uz_pads.specs.Pads.{pads_wiring};
 ghost use Rattle.uz_ports.specs.Boards.{held_of, content_of, space_of, entered_of, entry_edge, clock_of as board_clock};
 ghost use Rattle.uz_console.specs.Consoles.{clock_of, state_of};
@@ -12,9 +12,8 @@ ghost use Rattle.uz_console.specs.Turns.{IsTurn, TurnTakesTime, IsMade, HasSome,
 
 use crate::Console;
 use arrayvec::ArrayVec;
-use uz_core::{Cpu, Program, Step, Why};
+use uz_core::{Cpu, Edge, Program, Step, Why};
 use uz_hex::FLASH_WORDS;
-use uz_machine::Edge;
 use uz_ports::Board;
 
 /// What a turn did.

@@ -1,8 +1,8 @@
 //! What a turn will read: the flash, timer 1, and whether the interrupt is taken.
 
 ghost use Rattle.std.specs.Prelude.{◌≡◌};
-ghost use Rattle.uz_machine.specs.PadLine.{PadHistory};
-ghost use Rattle.uz_machine.specs.Turn.{State, is_entry};
+ghost use Rattle.uz_core.specs.PadLine.{PadHistory};
+ghost use Rattle.uz_core.specs.Turn.{State, is_entry};
 ghost use Rattle.uz_console.specs.Consoles.{StandsFor, state_of};
 
 use crate::Console;

@@ -7,8 +7,8 @@ use Rattle.avr_table.specs.declared.Instr.{Instr}
 use Rattle.avr_table.specs.declared.Outcome.{Outcome}
 use Rattle.avr_table.specs.declared.Outcome.TheVariants.{Next, Taken, SkipOne, SkipTwo}
 use Rattle.avr_table.specs.Rows.{Reads, clocks_of}
-use Rattle.uz_machine.specs.OperandRanges.{EffectFits}
-use Rattle.uz_machine.proofs.EffectRanges.{effect_fits}
+use Rattle.uz_core.specs.OperandRanges.{EffectFits}
+use Rattle.uz_core.proofs.EffectRanges.{effect_fits}
 use Rattle.uz_core.specs.declared.decoded.Clocks.{Clocks}
 use Rattle.uz_core.specs.declared.decoded.Decoded.{Decoded}
 use Rattle.uz_core.specs.RowClocks.{clocks_in}

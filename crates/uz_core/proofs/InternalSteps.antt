@@ -9,16 +9,16 @@ use Rattle.avr_table.specs.declared.Instr.{Instr}
 use Rattle.avr_table.specs.declared.Outcome.{Outcome}
 use Rattle.avr_table.specs.declared.Outcome.TheVariants.{Next, Taken}
 use Rattle.avr_table.specs.Rows.{words_of, clocks_of}
-use Rattle.uz_machine.specs.declared.Effect.{Effect}
-use Rattle.uz_machine.specs.declared.Effect.TheVariants.{Stop}
-use Rattle.uz_machine.specs.Effects.{effect_of}
-use Rattle.uz_machine.specs.Arithmetic.{bit_is_set, decrement_of, increment_of, logical_shift_of, product_of, rotation_of}
-use Rattle.uz_machine.specs.Core.{Core, add_to_pair_result, binary_result, bit_equals, changed_core, load_addresses, operand_value}
-use Rattle.uz_machine.specs.Core.{pair, register, unary_result}
-use Rattle.uz_machine.specs.Core.{stores_of, outcome_of, next_pc, owes_instruction, returns_from_interrupt}
-use Rattle.uz_machine.specs.Core.{leaves_core}
-use Rattle.uz_machine.specs.OperandRanges.{EffectFits}
-use Rattle.uz_machine.proofs.EffectRanges.{effect_fits}
+use Rattle.uz_core.specs.declared.machine.Effect.{Effect}
+use Rattle.uz_core.specs.declared.machine.Effect.TheVariants.{Stop}
+use Rattle.uz_core.specs.Effects.{effect_of}
+use Rattle.uz_core.specs.Arithmetic.{bit_is_set, decrement_of, increment_of, logical_shift_of, product_of, rotation_of}
+use Rattle.uz_core.specs.Core.{Core, add_to_pair_result, binary_result, bit_equals, changed_core, load_addresses, operand_value}
+use Rattle.uz_core.specs.Core.{pair, register, unary_result}
+use Rattle.uz_core.specs.Core.{stores_of, outcome_of, next_pc, owes_instruction, returns_from_interrupt}
+use Rattle.uz_core.specs.Core.{leaves_core}
+use Rattle.uz_core.specs.OperandRanges.{EffectFits}
+use Rattle.uz_core.proofs.EffectRanges.{effect_fits}
 use Rattle.uz_core.proofs.SregBits.{binary_seven, bit_of_with_bit, enabled_kept, pair_seven, unary_seven}
 use Rattle.uz_core.specs.declared.internal.Action.{Action}
 use Rattle.uz_core.specs.declared.internal.Action.TheVariants as action

@@ -7,3 +7,11 @@ pub mod Readings
 pub mod Running
 pub mod StepMade
 pub mod FlagTables
+pub mod LoadModels
+pub mod RowClocks
+pub mod Wirings
+pub mod SregFlags
+pub mod ByteLists
+pub mod CoreKept
+pub mod EffectRanges
+pub mod StateKept

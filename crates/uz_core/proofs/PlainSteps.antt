@@ -6,14 +6,14 @@ use Rattle.std.specs.Ordering.{nat_cmp}
 use Rattle.std.specs.FinMap.{FinMap}
 use Rattle.std.proofs.lemmas.Bool.Decides.{nat_tests}
 use Rattle.avr_table.specs.Rows.{words_of, clocks_of}
-use Rattle.uz_machine.specs.declared.HeldStore.{HeldStore}
-use Rattle.uz_machine.specs.declared.Effect.{Effect}
-use Rattle.uz_machine.specs.declared.Effect.TheVariants.{Stop}
-use Rattle.uz_machine.specs.Effects.{effect_of}
-use Rattle.uz_machine.specs.Core.{Core, LoadModel, StepResult, changed_core, load_addresses, loaded_bytes}
-use Rattle.uz_machine.specs.Core.{content_after_loads, stores_of, outcome_of, next_pc, owes_instruction}
-use Rattle.uz_machine.specs.Core.{sample_clock, leaves_core, step_result}
-use Rattle.uz_machine.proofs.RowClocks.{stops, clocks_within}
+use Rattle.uz_core.specs.declared.machine.HeldStore.{HeldStore}
+use Rattle.uz_core.specs.declared.machine.Effect.{Effect}
+use Rattle.uz_core.specs.declared.machine.Effect.TheVariants.{Stop}
+use Rattle.uz_core.specs.Effects.{effect_of}
+use Rattle.uz_core.specs.Core.{Core, LoadModel, StepResult, changed_core, load_addresses, loaded_bytes}
+use Rattle.uz_core.specs.Core.{content_after_loads, stores_of, outcome_of, next_pc, owes_instruction}
+use Rattle.uz_core.specs.Core.{sample_clock, leaves_core, step_result}
+use Rattle.uz_core.proofs.RowClocks.{stops, clocks_within}
 use Rattle.uz_core.specs.declared.step.Step.TheVariants.{Took}
 use Rattle.uz_core.specs.Steps.{IsStep}
 use Rattle.uz_core.specs.PlainSteps.{IsPlainStep, outcome_alone}

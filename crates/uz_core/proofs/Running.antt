@@ -3,8 +3,8 @@ use Rattle.std.proofs.Common.{◌≢◌, ℕ, subst}
 use Rattle.std.specs.Ordering.{nat_cmp}
 use Rattle.std.specs.FinMap.{FinMap}
 use Rattle.avr_table.specs.declared.Instr.{Instr}
-use Rattle.uz_machine.specs.declared.Effect.TheVariants.{Stop}
-use Rattle.uz_machine.specs.Effects.{effect_of}
+use Rattle.uz_core.specs.declared.machine.Effect.TheVariants.{Stop}
+use Rattle.uz_core.specs.Effects.{effect_of}
 use Rattle.uz_core.specs.declared.decoded.Decoded.{Decoded}
 use Rattle.uz_core.specs.declared.decoded.Reading.{Reading}
 use Rattle.uz_core.specs.declared.decoded.Reading.TheVariants.{Internal, Stores, Runs, Spm, NoRow}

@@ -5,12 +5,12 @@ use Rattle.std.specs.Prelude.{bit_or, bit_and, slice_index_or, ◌&&◌}
 use Rattle.std.specs.Int.{bit_at}
 use Rattle.std.proofs.lemmas.Bool.Decides.{eqb_tells, nat_tests}
 use Rattle.std.proofs.lemmas.Nat.Bits.{bit_at-suc, bit_at_lowest, bit_at_or, bit_at_and, bit_at-lt, bit_at-pow_same, bit_at-pow_other}
-use Rattle.uz_machine.specs.declared.BinaryOp.{BinaryOp}
-use Rattle.uz_machine.specs.declared.BinaryOp.TheVariants as binary
-use Rattle.uz_machine.specs.declared.UnaryOp.{UnaryOp}
-use Rattle.uz_machine.specs.declared.UnaryOp.TheVariants as unary
-use Rattle.uz_machine.specs.Arithmetic.{AluResult, bit_value, bit_is_set, with_bit, merged_sreg, chained_result, with_z_cleared, difference_of}
-use Rattle.uz_machine.specs.Core.{add_to_pair_result, binary_result, unary_result}
+use Rattle.uz_core.specs.declared.machine.BinaryOp.{BinaryOp}
+use Rattle.uz_core.specs.declared.machine.BinaryOp.TheVariants as binary
+use Rattle.uz_core.specs.declared.machine.UnaryOp.{UnaryOp}
+use Rattle.uz_core.specs.declared.machine.UnaryOp.TheVariants as unary
+use Rattle.uz_core.specs.Arithmetic.{AluResult, bit_value, bit_is_set, with_bit, merged_sreg, chained_result, with_z_cleared, difference_of}
+use Rattle.uz_core.specs.Core.{add_to_pair_result, binary_result, unary_result}
 
 -- a test that holds of each number below a bound
 unfoldable all_below : ℕ → (ℕ → Bool) → Bool

@@ -4,9 +4,9 @@ use Rattle.std.specs.Ordering.{nat_cmp}
 use Rattle.std.specs.FinMap.{FinMap}
 use Rattle.avr_table.specs.declared.Instr.{Instr}
 use Rattle.avr_table.specs.Rows.{words_of}
-use Rattle.uz_machine.specs.declared.HeldStore.{HeldStore}
-use Rattle.uz_machine.specs.Effects.{effect_of}
-use Rattle.uz_machine.specs.Core.{Core, LoadModel, StepResult, effect_result, step_result}
+use Rattle.uz_core.specs.declared.machine.HeldStore.{HeldStore}
+use Rattle.uz_core.specs.Effects.{effect_of}
+use Rattle.uz_core.specs.Core.{Core, LoadModel, StepResult, effect_result, step_result}
 use Rattle.uz_core.specs.declared.decoded.Decoded.{Decoded}
 use Rattle.uz_core.specs.declared.step.Step.{Step}
 use Rattle.uz_core.specs.declared.step.Step.TheVariants.{Took}

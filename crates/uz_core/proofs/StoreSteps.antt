@@ -7,14 +7,14 @@ use Rattle.avr_table.specs.declared.Instr.{Instr}
 use Rattle.avr_table.specs.declared.Outcome.{Outcome}
 use Rattle.avr_table.specs.declared.Outcome.TheVariants.{Next}
 use Rattle.avr_table.specs.Rows.{words_of, clocks_of}
-use Rattle.uz_machine.specs.declared.Effect.{Effect}
-use Rattle.uz_machine.specs.declared.HeldStore.{HeldStore}
-use Rattle.uz_machine.specs.declared.HeldStore.TheVariants as held
-use Rattle.uz_machine.specs.Effects.{effect_of}
-use Rattle.uz_machine.specs.OperandRanges.{EffectFits}
-use Rattle.uz_machine.proofs.EffectRanges.{effect_fits}
-use Rattle.uz_machine.specs.Core.{Core, changed_core, load_addresses, stores_of, leaves_core, outcome_of, next_pc, owes_instruction}
-use Rattle.uz_machine.specs.Core.{register, returns_from_interrupt, with_core_byte}
+use Rattle.uz_core.specs.declared.machine.Effect.{Effect}
+use Rattle.uz_core.specs.declared.machine.HeldStore.{HeldStore}
+use Rattle.uz_core.specs.declared.machine.HeldStore.TheVariants as held
+use Rattle.uz_core.specs.Effects.{effect_of}
+use Rattle.uz_core.specs.OperandRanges.{EffectFits}
+use Rattle.uz_core.proofs.EffectRanges.{effect_fits}
+use Rattle.uz_core.specs.Core.{Core, changed_core, load_addresses, stores_of, leaves_core, outcome_of, next_pc, owes_instruction}
+use Rattle.uz_core.specs.Core.{register, returns_from_interrupt, with_core_byte}
 use Rattle.uz_core.specs.RowClocks.{clocks_in}
 use Rattle.uz_core.specs.declared.decoded.Decoded.{Decoded}
 use Rattle.uz_core.specs.declared.decoded.Reading.TheVariants as reading

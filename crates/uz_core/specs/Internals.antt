@@ -5,13 +5,13 @@ use Rattle.std.specs.FinMap.{FinMap}
 use Rattle.std.specs.FinMap as map
 use Rattle.avr_table.specs.declared.Outcome.{Outcome}
 use Rattle.avr_table.specs.declared.Outcome.TheVariants.{Next, Taken}
-use Rattle.uz_machine.specs.declared.Operand.TheVariants.{Register, Constant}
-use Rattle.uz_machine.specs.declared.UnaryOp.TheVariants as unary
-use Rattle.uz_machine.specs.declared.JumpTarget.TheVariants.{Absolute, Relative}
-use Rattle.uz_machine.specs.declared.Effect.{Effect}
-use Rattle.uz_machine.specs.declared.Effect.TheVariants as effect
-use Rattle.uz_machine.specs.Arithmetic.{bit_is_set}
-use Rattle.uz_machine.specs.Core.{Core, bit_equals, changed_core}
+use Rattle.uz_core.specs.declared.machine.Operand.TheVariants.{Register, Constant}
+use Rattle.uz_core.specs.declared.machine.UnaryOp.TheVariants as unary
+use Rattle.uz_core.specs.declared.machine.JumpTarget.TheVariants.{Absolute, Relative}
+use Rattle.uz_core.specs.declared.machine.Effect.{Effect}
+use Rattle.uz_core.specs.declared.machine.Effect.TheVariants as effect
+use Rattle.uz_core.specs.Arithmetic.{bit_is_set}
+use Rattle.uz_core.specs.Core.{Core, bit_equals, changed_core}
 use Rattle.uz_core.specs.declared.internal.Action.{Action}
 use Rattle.uz_core.specs.declared.internal.Action.TheVariants as action
 use Rattle.uz_core.specs.declared.internal.Internal.{Internal}

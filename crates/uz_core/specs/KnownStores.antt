@@ -2,12 +2,12 @@
 use Rattle.std.specs.Prelude.{◌≡◌, ℕ, ◌+◌, ◌%◌, ◌<◌, false}
 use Rattle.avr_table.specs.declared.Outcome.{Outcome}
 use Rattle.avr_table.specs.declared.Outcome.TheVariants.{Next}
-use Rattle.uz_machine.specs.declared.AddressMode.TheVariants.{Direct}
-use Rattle.uz_machine.specs.declared.Effect.{Effect}
-use Rattle.uz_machine.specs.declared.Effect.TheVariants.{Store, WriteIoBit}
-use Rattle.uz_machine.specs.declared.HeldStore.{HeldStore}
-use Rattle.uz_machine.specs.declared.HeldStore.TheVariants as held
-use Rattle.uz_machine.specs.Core.{Core, is_core_address, register}
+use Rattle.uz_core.specs.declared.machine.AddressMode.TheVariants.{Direct}
+use Rattle.uz_core.specs.declared.machine.Effect.{Effect}
+use Rattle.uz_core.specs.declared.machine.Effect.TheVariants.{Store, WriteIoBit}
+use Rattle.uz_core.specs.declared.machine.HeldStore.{HeldStore}
+use Rattle.uz_core.specs.declared.machine.HeldStore.TheVariants as held
+use Rattle.uz_core.specs.Core.{Core, is_core_address, register}
 use Rattle.uz_core.specs.declared.known_store.Target.{Target}
 use Rattle.uz_core.specs.declared.known_store.Target.TheVariants.{Byte, Bit}
 use Rattle.uz_core.specs.declared.known_store.KnownStore.{KnownStore}

@@ -5,11 +5,11 @@ use Rattle.std.specs.FinMap.{FinMap}
 use Rattle.avr_table.specs.declared.Instr.{Instr}
 use Rattle.avr_table.specs.declared.Outcome.{Outcome}
 use Rattle.avr_table.specs.Rows.{words_of, clocks_of}
-use Rattle.uz_machine.specs.declared.HeldStore.{HeldStore}
-use Rattle.uz_machine.specs.declared.Effect.TheVariants.{Stop}
-use Rattle.uz_machine.specs.Effects.{effect_of}
-use Rattle.uz_machine.specs.Core.{Core, changed_core, load_addresses, stores_of, leaves_core, outcome_of, next_pc, owes_instruction}
-use Rattle.uz_machine.specs.Core.{returns_from_interrupt}
+use Rattle.uz_core.specs.declared.machine.HeldStore.{HeldStore}
+use Rattle.uz_core.specs.declared.machine.Effect.TheVariants.{Stop}
+use Rattle.uz_core.specs.Effects.{effect_of}
+use Rattle.uz_core.specs.Core.{Core, changed_core, load_addresses, stores_of, leaves_core, outcome_of, next_pc, owes_instruction}
+use Rattle.uz_core.specs.Core.{returns_from_interrupt}
 use Rattle.uz_core.specs.Steps.{IsInstruction}
 
 -- the outcome of an instruction without loads

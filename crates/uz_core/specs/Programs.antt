@@ -5,9 +5,9 @@ use Rattle.std.specs.FinMap.{FinMap}
 use Rattle.uz_hex.specs.Cells.{word_of}
 use Rattle.avr_table.specs.declared.Instr.{Instr}
 use Rattle.avr_table.specs.Rows.{Reads, clocks_of, words_of}
-use Rattle.uz_machine.specs.declared.Effect.TheVariants.{Stop}
-use Rattle.uz_machine.specs.Effects.{effect_of}
-use Rattle.uz_machine.specs.Core.{Core, LoadModel, StepResult, effect_result}
+use Rattle.uz_core.specs.declared.machine.Effect.TheVariants.{Stop}
+use Rattle.uz_core.specs.Effects.{effect_of}
+use Rattle.uz_core.specs.Core.{Core, LoadModel, StepResult, effect_result}
 use Rattle.uz_core.specs.declared.decoded.Decoded.{Decoded}
 use Rattle.uz_core.specs.declared.decoded.Reading.{Reading}
 use Rattle.uz_core.specs.declared.decoded.Reading.TheVariants.{Internal, Stores, Runs, Spm, NoRow}

@@ -5,10 +5,10 @@ use Rattle.std.specs.FinMap.{FinMap}
 use Rattle.uz_hex.specs.Cells.{word_of}
 use Rattle.avr_table.specs.declared.Instr.{Instr}
 use Rattle.avr_table.specs.Rows.{Reads}
-use Rattle.uz_machine.specs.declared.HeldStore.{HeldStore}
-use Rattle.uz_machine.specs.declared.Effect.TheVariants.{Stop}
-use Rattle.uz_machine.specs.Effects.{effect_of}
-use Rattle.uz_machine.specs.Core.{Core, LoadModel, step_result}
+use Rattle.uz_core.specs.declared.machine.HeldStore.{HeldStore}
+use Rattle.uz_core.specs.declared.machine.Effect.TheVariants.{Stop}
+use Rattle.uz_core.specs.Effects.{effect_of}
+use Rattle.uz_core.specs.Core.{Core, LoadModel, step_result}
 use Rattle.uz_core.specs.declared.step.Why.TheVariants.{Opcode, Spm}
 use Rattle.uz_core.specs.declared.step.Step.{Step}
 use Rattle.uz_core.specs.declared.step.Step.TheVariants.{Took, Stopped}

@@ -4,16 +4,16 @@
 //! value's; the other bits stay.
 
 ghost use Rattle.std.specs.Prelude.{◌≡◌, ◌<◌, ◌≤◌, ◌+◌, ◌*◌, ◌/◌, ◌%◌, ◌*ℤ◌, ◌+ℤ◌, ◌-ℤ◌, pos, nat_eq, nat_le};
-ghost use Rattle.uz_machine.specs.declared.Flags.{Flags};
-ghost use Rattle.uz_machine.specs.Arithmetic.{FitsMask, bit_value, signed, overflows, flags_cznvsh, flags_znvs};
-ghost use Rattle.uz_machine.specs.Arithmetic.{flags_cznvs, flags_cz, sum_of, difference_of, chained_result, and_of};
-ghost use Rattle.uz_machine.specs.Arithmetic.{or_of, xor_of, complement_of, negation_of, increment_of, decrement_of};
-ghost use Rattle.uz_machine.specs.Arithmetic.{shift_result, logical_shift_of, arithmetic_shift_of, rotation_of};
-ghost use Rattle.uz_machine.specs.Arithmetic.{pair_sum_of, pair_difference_of, factor, low_word, left_shift_of};
-ghost use Rattle.uz_machine.specs.Arithmetic.{product_of, flags_of, alu_result};
+ghost use Rattle.uz_core.specs.declared.machine.Flags.{Flags};
+ghost use Rattle.uz_core.specs.Arithmetic.{FitsMask, bit_value, signed, overflows, flags_cznvsh, flags_znvs};
+ghost use Rattle.uz_core.specs.Arithmetic.{flags_cznvs, flags_cz, sum_of, difference_of, chained_result, and_of};
+ghost use Rattle.uz_core.specs.Arithmetic.{or_of, xor_of, complement_of, negation_of, increment_of, decrement_of};
+ghost use Rattle.uz_core.specs.Arithmetic.{shift_result, logical_shift_of, arithmetic_shift_of, rotation_of};
+ghost use Rattle.uz_core.specs.Arithmetic.{pair_sum_of, pair_difference_of, factor, low_word, left_shift_of};
+ghost use Rattle.uz_core.specs.Arithmetic.{product_of, flags_of, alu_result};
 ghost use Rattle.uz_core.specs.FlagValues.{incremented_value, decremented_value};
 
-use uz_machine::Flags;
+use crate::Flags;
 
 fn bit_value(b: bool) -> u8
     ensures { result ≡ bit_value b }

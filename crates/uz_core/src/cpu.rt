@@ -1,15 +1,15 @@
 //! The registers.
 
 ghost use Rattle.std.specs.Prelude.{◌≡◌, ◌<◌, ◌≤◌, ◌+◌, ◌*◌, ◌%◌};
-ghost use Rattle.uz_machine.specs.Core.{Core, reset_core, register, pair, with_register, with_pair, with_sp, with_sreg};
-ghost use Rattle.uz_machine.specs.Core.{operand_value, core_byte, with_core_byte, effective_address};
-ghost use Rattle.uz_machine.specs.Core.{with_pointer_after};
-ghost use Rattle.uz_machine.specs.Arithmetic.{FitsMask, flags_of, merged_sreg};
-ghost use Rattle.uz_machine.specs.OperandRanges.{OperandFits, AddressModeFits};
+ghost use Rattle.uz_core.specs.Core.{Core, reset_core, register, pair, with_register, with_pair, with_sp, with_sreg};
+ghost use Rattle.uz_core.specs.Core.{operand_value, core_byte, with_core_byte, effective_address};
+ghost use Rattle.uz_core.specs.Core.{with_pointer_after};
+ghost use Rattle.uz_core.specs.Arithmetic.{FitsMask, flags_of, merged_sreg};
+ghost use Rattle.uz_core.specs.OperandRanges.{OperandFits, AddressModeFits};
 
+use crate::address::{IO_BASE, RAM_END, SPH, SPL};
+use crate::{AddressMode, Flags, Operand};
 use std::marker::Model;
-use uz_machine::address::{IO_BASE, RAM_END, SPH, SPL};
-use uz_machine::{AddressMode, Flags, Operand};
 
 /// The core's registers: pc (a word address below 32,768), R0 to R31, SREG and SP.
 #[derive(Drop)]
@@ -22,7 +22,7 @@ pub struct Cpu {
 
 impl Model for Cpu {
     ghost use Rattle.std.specs.Prelude.{◌≡◌, ◌<◌, length};
-    ghost use Rattle.uz_machine.specs.Core.{Core};
+    ghost use Rattle.uz_core.specs.Core.{Core};
 
     ghost Value = { Core };
 
@@ -151,7 +151,7 @@ impl Cpu {
     }
 
     /// Sets and clears the flags in the mask.
-    #[tactic(auto, using(uz_machine::proofs::SregFlags::replaced_bits))]
+    #[tactic(auto, using(crate::proofs::SregFlags::replaced_bits))]
     pub(crate) fn merge_flags(&mut self, flags: Flags)
         requires { FitsMask flags }
         ensures { self.new ≡ with_sreg (merged_sreg (flags_of flags) self.old.sreg) self.old }

@@ -1,9 +1,9 @@
 //! The data space as the core sees it.
 
 ghost use Rattle.std.specs.Prelude.{◌≡◌, ◌<◌, ◌++◌, ◌∷◌, [], length, List};
-ghost use Rattle.uz_machine.specs.Core.{LoadModel};
-ghost use Rattle.uz_machine.specs.declared.HeldStore.{HeldStore};
-ghost use Rattle.uz_machine.specs.declared.HeldStore.TheVariants.{Byte, Bit};
+ghost use Rattle.uz_core.specs.Core.{LoadModel};
+ghost use Rattle.uz_core.specs.declared.machine.HeldStore.{HeldStore};
+ghost use Rattle.uz_core.specs.declared.machine.HeldStore.TheVariants.{Byte, Bit};
 
 /// What lies behind the core: all data addresses but 0x00 to 0x1F (registers) and 0x5D to 0x5F (SPL, SPH, SREG).
 ///

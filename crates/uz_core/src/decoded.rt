@@ -2,19 +2,19 @@
 
 ghost use Rattle.std.specs.Prelude.{◌≡◌, ◌<◌, ◌↔◌, IsTrue};
 ghost use Rattle.avr_table.specs.Rows.{clocks_of};
-ghost use Rattle.uz_machine.specs.declared.Effect.TheVariants.{Stop};
-ghost use Rattle.uz_machine.specs.Effects.{effect_of};
-ghost use Rattle.uz_machine.specs.Core.{sample_clock, owes_instruction, returns_from_interrupt};
-ghost use Rattle.uz_machine.specs.OperandRanges.{EffectFits};
+ghost use Rattle.uz_core.specs.declared.machine.Effect.TheVariants.{Stop};
+ghost use Rattle.uz_core.specs.Effects.{effect_of};
+ghost use Rattle.uz_core.specs.Core.{sample_clock, owes_instruction, returns_from_interrupt};
+ghost use Rattle.uz_core.specs.OperandRanges.{EffectFits};
 ghost use Rattle.uz_core.specs.RowClocks.{clocks_in};
 
+use crate::Effect;
 use crate::effects::effect;
 use crate::internal::Internal;
 use crate::known_store::KnownStore;
 use crate::operation::I;
 use avr_decode::decode;
 use avr_table::{Instr, Outcome, clocks, words};
-use uz_machine::Effect;
 
 /// The clocks of a row by outcome.
 #[derive(Clone, Copy)]

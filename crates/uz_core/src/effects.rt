@@ -1,11 +1,11 @@
 //! The effect of each row of the instruction table.
 
 ghost use Rattle.std.specs.Prelude.{◌≡◌, ◌<◌, ◌≤◌, ◌*◌};
-ghost use Rattle.uz_machine.specs.Effects.{signed_offset, effect_of};
-ghost use Rattle.uz_machine.specs.OperandRanges.{EffectFits};
+ghost use Rattle.uz_core.specs.Effects.{signed_offset, effect_of};
+ghost use Rattle.uz_core.specs.OperandRanges.{EffectFits};
 
+use crate::{AddressMode, BinaryOp, Effect, JumpTarget, Operand, SkipTest, UnaryOp};
 use avr_table::{Field, Instr, rows};
-use uz_machine::{AddressMode, BinaryOp, Effect, JumpTarget, Operand, SkipTest, UnaryOp};
 
 /// A number in two's complement, modulo the 32,768 words of the flash: one from `half` on is negative.
 fn signed_offset<const BITS: u32>(half: u16, k: Field<BITS>) -> u16

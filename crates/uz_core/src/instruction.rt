@@ -2,22 +2,21 @@
 
 ghost use Rattle.std.specs.Prelude.{◌≡◌, ◌≢◌, ◌<◌, ◌+◌, ◌-◌, ◌++◌, ◌∷◌, [], length, slice_index, filter, fold, ◌%◌, ◌*◌, true, false};
 ghost use Rattle.std.specs.FinMap as map;
-ghost use Rattle.uz_machine.specs.declared.HeldStore.TheVariants.{Byte, Bit};
-ghost use Rattle.uz_machine.specs.declared.Effect.TheVariants.{CopyByte, CopyPair, Binary, Unary, AddToPair, Multiply};
-ghost use Rattle.uz_machine.specs.declared.Effect.TheVariants.{Load, Store, PushByte, PopByte, LoadProgram, WriteIoBit};
-ghost use Rattle.uz_machine.specs.declared.Effect.TheVariants.{WriteFlag, LoadBit, StoreBit, Branch, SkipIf, Jump};
-ghost use Rattle.uz_machine.specs.declared.Effect.TheVariants.{Return};
-ghost use Rattle.uz_machine.specs.Core.{Core, LoadModel, test_holds, bit_equals, jump_address, load_addresses, with_sp};
-ghost use Rattle.uz_machine.specs.Core.{changed_core, loaded_bytes, content_after_loads, with_store, leaves_core};
-ghost use Rattle.uz_machine.specs.Core.{stores_of, pc_stores, following_pc};
-ghost use Rattle.uz_machine.specs.OperandRanges.{EffectFits, SkipTestFits, JumpTargetFits};
+ghost use Rattle.uz_core.specs.declared.machine.HeldStore.TheVariants.{Byte, Bit};
+ghost use Rattle.uz_core.specs.declared.machine.Effect.TheVariants.{CopyByte, CopyPair, Binary, Unary, AddToPair, Multiply};
+ghost use Rattle.uz_core.specs.declared.machine.Effect.TheVariants.{Load, Store, PushByte, PopByte, LoadProgram, WriteIoBit};
+ghost use Rattle.uz_core.specs.declared.machine.Effect.TheVariants.{WriteFlag, LoadBit, StoreBit, Branch, SkipIf, Jump};
+ghost use Rattle.uz_core.specs.declared.machine.Effect.TheVariants.{Return};
+ghost use Rattle.uz_core.specs.Core.{Core, LoadModel, test_holds, bit_equals, jump_address, load_addresses, with_sp};
+ghost use Rattle.uz_core.specs.Core.{changed_core, loaded_bytes, content_after_loads, with_store, leaves_core};
+ghost use Rattle.uz_core.specs.Core.{stores_of, pc_stores, following_pc};
+ghost use Rattle.uz_core.specs.OperandRanges.{EffectFits, SkipTestFits, JumpTargetFits};
 
+use crate::address::is_core_address;
 use crate::arithmetic::mul16;
 use crate::operation::{I, T, add_to_pair, binary, bit_is_set, unary, with_bit};
-use crate::{Cpu, Data};
+use crate::{AddressMode, BinaryOp, Cpu, Data, JumpTarget, Operand, SkipTest, UnaryOp};
 use uz_hex::{ERASED, Image};
-use uz_machine::address::is_core_address;
-use uz_machine::{AddressMode, BinaryOp, JumpTarget, Operand, SkipTest, UnaryOp};
 
 impl Cpu {
     /// Reads a byte of the whole data space. The core's own addresses don't reach `space`.

@@ -2,16 +2,15 @@
 
 ghost use Rattle.std.specs.Prelude.{◌≡◌, ◌<◌, ◌≤◌, ◌^◌, IfSome};
 ghost use Rattle.std.specs.FinMap as map;
-ghost use Rattle.uz_machine.specs.declared.Effect.TheVariants.{CopyByte, Unary};
-ghost use Rattle.uz_machine.specs.OperandRanges.{EffectFits};
+ghost use Rattle.uz_core.specs.declared.machine.Effect.TheVariants.{CopyByte, Unary};
+ghost use Rattle.uz_core.specs.OperandRanges.{EffectFits};
 ghost use Rattle.uz_core.specs.RowClocks.{clocks_in};
 
-use crate::Cpu;
 use crate::decoded::{Decoded, Reading};
 use crate::instruction::bit_equals;
 use crate::program::Program;
+use crate::{BinaryOp, Cpu, Effect, JumpTarget, Operand, UnaryOp};
 use uz_hex::FLASH_WORDS;
-use uz_machine::{BinaryOp, Effect, JumpTarget, Operand, UnaryOp};
 
 /// What such an instruction does. Forms that programs run most often have a variant of their own, so that a step finds what to do
 /// by one jump.

@@ -1,15 +1,14 @@
 //! Instructions that make one store, to an address that is known when they are decoded, and nothing else.
 
 ghost use Rattle.std.specs.Prelude.{◌≡◌, ◌<◌, ◌∷◌, [], IfNone, IfSome};
-ghost use Rattle.uz_machine.specs.OperandRanges.{EffectFits};
+ghost use Rattle.uz_core.specs.OperandRanges.{EffectFits};
 ghost use Rattle.uz_core.specs.RowClocks.{clocks_in};
 
-use crate::Cpu;
+use crate::address::is_core_address;
 use crate::decoded::{Decoded, Reading};
 use crate::program::Program;
+use crate::{AddressMode, Cpu, Effect, HeldStore};
 use uz_hex::FLASH_WORDS;
-use uz_machine::address::is_core_address;
-use uz_machine::{AddressMode, Effect, HeldStore};
 
 /// Where such an instruction stores, and what. No address is one of the core's own.
 #[derive(Clone, Copy)]

@@ -3,6 +3,7 @@
 //! Source: AVR Instruction Set Manual, with the clocks of parts that have a 16-bit program counter.
 #![tactic(auto)]
 
+pub mod address;
 mod arithmetic;
 mod cpu;
 mod data;
@@ -11,6 +12,7 @@ mod effects;
 mod instruction;
 mod internal;
 mod known_store;
+mod machine;
 mod operation;
 mod program;
 mod step;
@@ -21,7 +23,10 @@ pub use arithmetic::{
 pub use cpu::Cpu;
 pub use data::Data;
 pub use effects::effect;
+pub use machine::{
+    AddressMode, BinaryOp, Edge, EdgeKind, Effect, Flags, HeldStore, JumpTarget, Operand, SkipTest,
+    UnaryOp,
+};
 pub use operation::with_bit;
 pub use program::Program;
 pub use step::{Step, Why};
-pub use uz_machine::Flags;

@@ -1,13 +1,13 @@
 //! Operations of an effect, with C and Z from the status register.
 
 ghost use Rattle.std.specs.Prelude.{◌≡◌, ◌<◌};
-ghost use Rattle.uz_machine.specs.Core.{binary_result, unary_result, add_to_pair_result};
-ghost use Rattle.uz_machine.specs.Arithmetic.{FitsMask, bit_is_set, with_bit, swap_of, alu_result};
+ghost use Rattle.uz_core.specs.Core.{binary_result, unary_result, add_to_pair_result};
+ghost use Rattle.uz_core.specs.Arithmetic.{FitsMask, bit_is_set, with_bit, swap_of, alu_result};
 
 use crate::arithmetic::{
     add8, add16, and8, asr8, com8, dec8, inc8, lsr8, neg8, or8, ror8, sub8, sub16, xor8,
 };
-use uz_machine::{BinaryOp, Flags, UnaryOp};
+use crate::{BinaryOp, Flags, UnaryOp};
 
 /// The bits of C, Z, T and I in SREG.
 const C: u8 = 0;

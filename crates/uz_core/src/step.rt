@@ -1,26 +1,25 @@
 //! One instruction, and an interrupt's entry.
 
 ghost use Rattle.std.specs.Prelude.{◌≡◌, ◌≢◌, ◌<◌, ◌≤◌, ◌+◌, ◌-◌, [], ◌∷◌, filter};
-ghost use Rattle.uz_machine.specs.declared.Effect.TheVariants.{Stop};
-ghost use Rattle.uz_machine.specs.Core.{Core, LoadModel, changed_core, loaded_bytes, content_after_loads};
-ghost use Rattle.uz_machine.specs.Core.{load_addresses, stores_of, pc_stores, leaves_core, next_pc, outcome_of};
-ghost use Rattle.uz_machine.specs.Core.{interrupted_core};
-ghost use Rattle.uz_machine.specs.OperandRanges.{EffectFits};
+ghost use Rattle.uz_core.specs.declared.machine.Effect.TheVariants.{Stop};
+ghost use Rattle.uz_core.specs.Core.{Core, LoadModel, changed_core, loaded_bytes, content_after_loads};
+ghost use Rattle.uz_core.specs.Core.{load_addresses, stores_of, pc_stores, leaves_core, next_pc, outcome_of};
+ghost use Rattle.uz_core.specs.Core.{interrupted_core};
+ghost use Rattle.uz_core.specs.OperandRanges.{EffectFits};
 ghost use Rattle.uz_core.specs.KnownStores.{StoreFits};
 ghost use Rattle.uz_core.specs.Programs.{IsReading, decoded_result};
 ghost use Rattle.uz_core.specs.Steps.{IsStep};
 ghost use Rattle.uz_core.specs.declared.step.Step.TheVariants.{Took};
 
+use crate::address::TIMER1_COMPA;
 use crate::decoded::{Decoded, Reading, owes_instruction, returns_from_interrupt};
 use crate::instruction::bit_equals;
 use crate::operation::{I, with_bit};
 use crate::program::{Program, read_at};
-use crate::{Cpu, Data};
+use crate::{Cpu, Data, Effect, HeldStore};
 use avr_decode::length;
 use avr_table::Outcome;
 use uz_hex::Image;
-use uz_machine::address::TIMER1_COMPA;
-use uz_machine::{Effect, HeldStore};
 
 /// Why a step stopped.
 #[derive(Clone, Copy, Debug)]

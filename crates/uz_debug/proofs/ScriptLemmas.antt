@@ -6,7 +6,7 @@ use Rattle.std.specs.List.{slice_split}
 use Rattle.std.proofs.lemmas.List.{map-append, take_all}
 use Rattle.std.proofs.lemmas.List.Elements.{filter-append}
 use Rattle.std.proofs.Math.Seq.{take-suc}
-use Rattle.uz_text.specs.Lines.{is_blank, line_at, lines_of_pieces}
+use Rattle.uz_hex.specs.Lines.{is_blank, line_at, lines_of_pieces}
 use Rattle.uz_pads.proofs.ItemLemmas.{blank_read, faulty_at, item_read, nothing_read, whole_read}
 use Rattle.uz_debug.specs.declared.command.Command.{Command}
 use Rattle.uz_debug.specs.declared.script_lines.Line.TheVariants as line

@@ -7,9 +7,9 @@ use Rattle.std.specs.Ordering.{nat_cmp}
 use Rattle.std.specs.FinSet as set
 use Rattle.std.specs.FinMap as map
 use Rattle.uz_hex.specs.Cells.{word_of}
-use Rattle.uz_machine.specs.PadLine.{PadHistory}
-use Rattle.uz_machine.specs.Space.{history_wiring}
-use Rattle.uz_machine.specs.Turn.{State, state_byte}
+use Rattle.uz_core.specs.PadLine.{PadHistory}
+use Rattle.uz_core.specs.Space.{history_wiring}
+use Rattle.uz_core.specs.Turn.{State, state_byte}
 use Rattle.uz_debug.specs.declared.command.Command.{Command}
 use Rattle.uz_debug.specs.declared.command.Command.TheVariants as command
 use Rattle.uz_debug.specs.declared.command.DebugWhy.{DebugWhy}

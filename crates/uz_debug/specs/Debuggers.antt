@@ -1,9 +1,9 @@
 -- The session that a debugger is in.
 use Rattle.std.specs.Prelude.{◌≡◌, ℕ, List, Some}
 use Rattle.std.specs.FinMap as map
-use Rattle.uz_machine.specs.PadLine.{PadHistory}
-use Rattle.uz_machine.specs.Turn.{State}
-use Rattle.uz_machine.specs.Turn.{state_byte}
+use Rattle.uz_core.specs.PadLine.{PadHistory}
+use Rattle.uz_core.specs.Turn.{State}
+use Rattle.uz_core.specs.Turn.{state_byte}
 use Rattle.uz_pads.specs.Pads.{pads_wiring}
 use Rattle.uz_console.specs.declared.console.Console.{Console}
 use Rattle.uz_console.specs.Consoles.{state_of}

@@ -1,7 +1,7 @@
 -- A console at a turn, with the save states that are kept.
 use Rattle.std.specs.Prelude.{ℕ, List, All}
-use Rattle.uz_machine.specs.PadLine.{PadHistory}
-use Rattle.uz_machine.specs.Turn.{State}
+use Rattle.uz_core.specs.PadLine.{PadHistory}
+use Rattle.uz_core.specs.Turn.{State}
 use Rattle.uz_console.specs.declared.console.Console.{Console}
 use Rattle.uz_console.specs.SaveStates.{IsSaveOf}
 use Rattle.uz_debug.specs.declared.timeline.Kept.{Kept}

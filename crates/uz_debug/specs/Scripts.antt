@@ -2,7 +2,7 @@
 use Rattle.std.specs.Prelude.{◌≡◌, ◌≢◌, ℕ, Bool, true, false, if◌then◌else◌, nat_lt, List, [], ◌∷◌, length}
 use Rattle.std.specs.Prelude.{filter, codes, bytes_eq, Option, Some, None, option_map}
 use Rattle.std.specs.List.{slice_split}
-use Rattle.uz_text.specs.Numbers.{number_within}
+use Rattle.uz_hex.specs.Numbers.{number_within}
 use Rattle.uz_pads.specs.ItemTexts.{IsFirstFaulty, IsText}
 use Rattle.uz_debug.specs.declared.command.Command.{Command}
 use Rattle.uz_debug.specs.declared.command.Command.TheVariants.{Step, Run, Back, Break, Clear, Save, Load, Show, Mem}
@@ -11,7 +11,7 @@ use Rattle.uz_debug.specs.declared.script_lines.Line.TheVariants as line
 use Rattle.uz_debug.specs.declared.errors.ScriptWhy.{ScriptWhy}
 use Rattle.uz_debug.specs.declared.errors.ScriptWhy.TheVariants.{Word, Number, Count, Memory}
 use Rattle.uz_debug.specs.Sessions.{IsInRange}
-use Rattle.uz_text.specs.Lines.{is_blank}
+use Rattle.uz_hex.specs.Lines.{is_blank}
 
 -- One line
 

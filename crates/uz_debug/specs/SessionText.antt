@@ -1,9 +1,9 @@
 -- The text of a session: a line for each command, and two for `show`.
 use Rattle.std.specs.Prelude.{◌≡◌, ℕ, zero, suc, ◌+◌, ◌%◌, nat_eq, if◌then◌else◌, List, [], ◌∷◌, ◌++◌, codes, decimal}
-use Rattle.uz_machine.specs.PadLine.{PadHistory}
-use Rattle.uz_machine.specs.Space.{history_wiring}
-use Rattle.uz_machine.specs.Turn.{State, state_byte}
-use Rattle.uz_text.specs.Hexadecimals.{hex_byte, hex_word}
+use Rattle.uz_core.specs.PadLine.{PadHistory}
+use Rattle.uz_core.specs.Space.{history_wiring}
+use Rattle.uz_core.specs.Turn.{State, state_byte}
+use Rattle.uz_hex.specs.Hexadecimals.{hex_byte, hex_word}
 use Rattle.uz_debug.specs.declared.command.Command.{Command}
 use Rattle.uz_debug.specs.declared.command.Command.TheVariants.{Show, Mem}
 use Rattle.uz_debug.specs.declared.command.DebugWhy.{DebugWhy}

@@ -7,10 +7,10 @@ use Rattle.std.specs.Ordering.{nat_cmp}
 use Rattle.std.specs.FinSet as set
 use Rattle.std.specs.FinMap as map
 use Rattle.uz_hex.specs.Cells.{word_of}
-use Rattle.uz_machine.specs.declared.Edge.{Edge}
-use Rattle.uz_machine.specs.PadLine.{PadHistory}
-use Rattle.uz_machine.specs.Turn.{State}
-use Rattle.uz_machine.specs.Run.{MachineTurn, Run, HasNoTurn}
+use Rattle.uz_core.specs.declared.machine.Edge.{Edge}
+use Rattle.uz_core.specs.PadLine.{PadHistory}
+use Rattle.uz_core.specs.Turn.{State}
+use Rattle.uz_core.specs.Run.{MachineTurn, Run, HasNoTurn}
 use Rattle.uz_debug.specs.declared.command.Command.{Command}
 use Rattle.uz_debug.specs.declared.command.Command.TheVariants as command
 use Rattle.uz_debug.specs.declared.command.Reply.{Reply}

@@ -3,8 +3,8 @@
 ghost use Rattle.std.specs.Prelude.{◌≡◌, ◌<◌, ◌≤◌, ◌++◌, ◌∷◌, [], ℕ, List, IfOk, IsOk};
 ghost use Rattle.uz_schedule.specs.Schedule.{response_clocks};
 ghost use Rattle.uz_console.specs.declared.console.Console.{Console};
-ghost use Rattle.uz_machine.specs.PadLine.{PadHistory};
-ghost use Rattle.uz_machine.specs.Turn.{State, state_at_reset, history_at_reset};
+ghost use Rattle.uz_core.specs.PadLine.{PadHistory};
+ghost use Rattle.uz_core.specs.Turn.{State, state_at_reset, history_at_reset};
 ghost use Rattle.uz_pads.specs.Pads.{pairs_of};
 ghost use Rattle.uz_debug.specs.Debuggers.{Debugs, DoesAct, Keeps, TellsHalt, session_of};
 ghost use Rattle.uz_debug.specs.Sessions.{Acts, IsInRange, TellsPlace};

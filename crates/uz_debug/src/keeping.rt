@@ -1,8 +1,8 @@
 //! Which save states stay.
 
 ghost use Rattle.std.specs.Prelude.{◌<◌, ◌≤◌, All, IfSome, length, slice_index_or};
-ghost use Rattle.uz_machine.specs.PadLine.{PadHistory};
-ghost use Rattle.uz_machine.specs.Turn.{State};
+ghost use Rattle.uz_core.specs.PadLine.{PadHistory};
+ghost use Rattle.uz_core.specs.Turn.{State};
 ghost use Rattle.uz_debug.specs.Kept.{IsKept, turn_in};
 ghost use Rattle.uz_debug.specs.declared.timeline.Kept.{Kept};
 

@@ -1,8 +1,8 @@
 //! Laws of scripts and sessions. Each is the contract of a function that does nothing.
 
 ghost use Rattle.std.specs.Prelude.{◌≡◌, ℕ, List};
-ghost use Rattle.uz_machine.specs.PadLine.{PadHistory};
-ghost use Rattle.uz_machine.specs.Turn.{State};
+ghost use Rattle.uz_core.specs.PadLine.{PadHistory};
+ghost use Rattle.uz_core.specs.Turn.{State};
 ghost use Rattle.uz_debug.specs.Sessions.{Acts, Session};
 ghost use Rattle.uz_debug.specs.SessionText.{Prints};
 ghost use Rattle.uz_debug.specs.declared.command.Command.{Command};

@@ -2,8 +2,8 @@
 
 ghost use Rattle.std.specs.Prelude.{ℕ, ◌≡◌, ◌≤◌, ◌*◌, MatchBool};
 ghost use Rattle.uz_console.specs.Consoles.{clock_of};
-ghost use Rattle.uz_machine.specs.PadLine.{PadHistory};
-ghost use Rattle.uz_machine.specs.Turn.{State};
+ghost use Rattle.uz_core.specs.PadLine.{PadHistory};
+ghost use Rattle.uz_core.specs.Turn.{State};
 ghost use Rattle.uz_debug.specs.Sessions.{IsBreak};
 ghost use Rattle.uz_debug.specs.Timelines.{IsAt, IsHalt, stops_of};
 

@@ -1,7 +1,7 @@
 //! Reading a script.
 
 ghost use Rattle.std.specs.Prelude.{◌≡◌, ◌<◌, ◌-◌, ◌^◌, ◌⊎◌, All, IfOk, IfErr, length, map};
-ghost use Rattle.uz_text.specs.Lines.{lines_of, lines_of_pieces};
+ghost use Rattle.uz_hex.specs.Lines.{lines_of, lines_of_pieces};
 ghost use Rattle.uz_debug.specs.Scripts.{IsFirstFault, IsLineInRange, IsScript, kind_of};
 ghost use Rattle.uz_debug.specs.Sessions.{IsInRange};
 ghost use Rattle.uz_debug.specs.declared.errors.ScriptWhy.TheVariants.{Memory};
@@ -10,7 +10,7 @@ use crate::command::Command;
 use crate::errors::{ScriptError, ScriptWhy};
 use crate::script_lines::{Line, line_kind, words};
 use std::alloc::{AllocError, Global};
-use uz_text::{line_at, pieces};
+use uz_hex::{line_at, pieces};
 
 /// The greatest number of commands in a script.
 const MOST_COMMANDS: usize = 65_536;

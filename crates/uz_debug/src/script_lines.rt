@@ -2,7 +2,7 @@
 
 ghost use Rattle.std.specs.Prelude.{◌≡◌, ◌≤◌, ◌<◌, IfOk, IfSome, bytes_eq, map, option_map};
 ghost use Rattle.std.specs.List.{slice_split};
-ghost use Rattle.uz_text.specs.Lines.{is_blank as is_blank_byte};
+ghost use Rattle.uz_hex.specs.Lines.{is_blank as is_blank_byte};
 ghost use Rattle.uz_debug.specs.Scripts.{kind_in, line_in, mem_in, one_number_in, one_word_in, slot_in, two_numbers_in};
 ghost use Rattle.uz_debug.specs.Scripts.{turns_in, address_in, words_of, IsLineInRange};
 ghost use Rattle.uz_debug.specs.Sessions.{IsInRange};
@@ -11,7 +11,7 @@ ghost use Rattle.uz_debug.specs.declared.command.Command.TheVariants.{Step, Run,
 use crate::command::Command;
 use crate::errors::ScriptWhy;
 use std::alloc::{AllocError, Global};
-use uz_text::{is_blank, number_within, short_number};
+use uz_hex::{is_blank, number_within, short_number};
 
 /// What a line of a script is.
 #[derive(Clone, Copy)]

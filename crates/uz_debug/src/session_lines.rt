@@ -1,10 +1,10 @@
 //! The text of a session.
 
 ghost use Rattle.std.specs.Prelude.{◌≡◌, ◌<◌, ◌++◌, List, All, IfOk, OnOk, codes, decimal};
-ghost use Rattle.uz_machine.specs.PadLine.{PadHistory};
-ghost use Rattle.uz_machine.specs.Turn.{State};
+ghost use Rattle.uz_core.specs.PadLine.{PadHistory};
+ghost use Rattle.uz_core.specs.Turn.{State};
 ghost use Rattle.uz_debug.specs.Debuggers.{Debugs, read_of, session_of};
-ghost use Rattle.uz_text.specs.Hexadecimals.{hex_byte, hex_word};
+ghost use Rattle.uz_hex.specs.Hexadecimals.{hex_byte, hex_word};
 ghost use Rattle.uz_debug.specs.SessionText.{AddsLine, Prints, at_text, bytes_text, gap, show_text, shown_text};
 ghost use Rattle.uz_debug.specs.SessionText.{status_text, stopped_at, stopped_line, why_name as name_of_why};
 ghost use Rattle.uz_debug.specs.Sessions.{IsInRange};
@@ -16,7 +16,7 @@ use crate::debugger::Debugger;
 use itoa::Buffer;
 use std::alloc::{AllocError, Global};
 use uz_console::Console;
-use uz_text::{byte_digits, word_digits};
+use uz_hex::{byte_digits, word_digits};
 
 /// The data addresses of SPL, SPH and SREG (ATmega644 data sheet, "Register Summary").
 const SPL: u16 = 0x5D;

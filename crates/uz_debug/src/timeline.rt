@@ -4,8 +4,8 @@ ghost use Rattle.std.specs.Prelude.{◌≡◌, ◌≤◌, ◌<◌, ◌*◌, ℕ,
 ghost use Rattle.uz_schedule.specs.Schedule.{response_clocks};
 ghost use Rattle.uz_console.specs.Consoles.{clock_of};
 ghost use Rattle.uz_console.specs.SaveStates.{clock_saved};
-ghost use Rattle.uz_machine.specs.PadLine.{PadHistory};
-ghost use Rattle.uz_machine.specs.Turn.{State, state_at_reset, history_at_reset};
+ghost use Rattle.uz_core.specs.PadLine.{PadHistory};
+ghost use Rattle.uz_core.specs.Turn.{State, state_at_reset, history_at_reset};
 ghost use Rattle.uz_pads.specs.Pads.{pairs_of};
 
 use crate::breakpoints::Breakpoints;

@@ -2,22 +2,22 @@
 use Rattle.std.specs.Prelude.{ℕ, ◌+◌, ◌*◌, ◌-◌, Bool, true, false, ◌&&◌, ◌||◌, if◌then◌else◌, List, [], ◌∷◌, ◌++◌, Option, Some, None}
 use Rattle.std.specs.Prelude.{codes, decimal, drop, length, nat_eq, slice_index_or}
 use Rattle.avr_table.specs.declared.Instr.{Instr}
-use Rattle.uz_machine.specs.Effects.{effect_of}
-use Rattle.uz_machine.specs.declared.Operand.{Operand}
-use Rattle.uz_machine.specs.declared.Operand.TheVariants.{Register, Constant}
-use Rattle.uz_machine.specs.declared.BinaryOp.{BinaryOp}
-use Rattle.uz_machine.specs.declared.BinaryOp.TheVariants.{Add, Subtract}
-use Rattle.uz_machine.specs.declared.UnaryOp.{UnaryOp}
-use Rattle.uz_machine.specs.declared.UnaryOp.TheVariants.{RotateRight}
-use Rattle.uz_machine.specs.declared.AddressMode.{AddressMode}
-use Rattle.uz_machine.specs.declared.AddressMode.TheVariants.{Direct, Displacement, PostIncrement, PreDecrement}
-use Rattle.uz_machine.specs.declared.SkipTest.{SkipTest}
-use Rattle.uz_machine.specs.declared.SkipTest.TheVariants.{Equal, RegisterBit, IoBit}
-use Rattle.uz_machine.specs.declared.JumpTarget.{JumpTarget}
-use Rattle.uz_machine.specs.declared.JumpTarget.TheVariants.{Absolute, Relative, Indirect}
-use Rattle.uz_machine.specs.declared.Effect.{Effect}
-use Rattle.uz_machine.specs.declared.Effect.TheVariants.{CopyByte, CopyPair, Binary, Unary, AddToPair, Multiply, Load, Store, PushByte, PopByte}
-use Rattle.uz_machine.specs.declared.Effect.TheVariants.{LoadProgram, LoadBit, StoreBit, Branch, SkipIf, Jump, Return}
+use Rattle.uz_core.specs.Effects.{effect_of}
+use Rattle.uz_core.specs.declared.machine.Operand.{Operand}
+use Rattle.uz_core.specs.declared.machine.Operand.TheVariants.{Register, Constant}
+use Rattle.uz_core.specs.declared.machine.BinaryOp.{BinaryOp}
+use Rattle.uz_core.specs.declared.machine.BinaryOp.TheVariants.{Add, Subtract}
+use Rattle.uz_core.specs.declared.machine.UnaryOp.{UnaryOp}
+use Rattle.uz_core.specs.declared.machine.UnaryOp.TheVariants.{RotateRight}
+use Rattle.uz_core.specs.declared.machine.AddressMode.{AddressMode}
+use Rattle.uz_core.specs.declared.machine.AddressMode.TheVariants.{Direct, Displacement, PostIncrement, PreDecrement}
+use Rattle.uz_core.specs.declared.machine.SkipTest.{SkipTest}
+use Rattle.uz_core.specs.declared.machine.SkipTest.TheVariants.{Equal, RegisterBit, IoBit}
+use Rattle.uz_core.specs.declared.machine.JumpTarget.{JumpTarget}
+use Rattle.uz_core.specs.declared.machine.JumpTarget.TheVariants.{Absolute, Relative, Indirect}
+use Rattle.uz_core.specs.declared.machine.Effect.{Effect}
+use Rattle.uz_core.specs.declared.machine.Effect.TheVariants.{CopyByte, CopyPair, Binary, Unary, AddToPair, Multiply, Load, Store, PushByte, PopByte}
+use Rattle.uz_core.specs.declared.machine.Effect.TheVariants.{LoadProgram, LoadBit, StoreBit, Branch, SkipIf, Jump, Return}
 use Rattle.uz_schedule.specs.Ends.{Ends}
 use Rattle.uz_schedule.specs.declared.facts.Bit.{Bit}
 use Rattle.uz_schedule.specs.declared.facts.Fact.{Fact}

@@ -6,3 +6,9 @@ pub mod Readings
 pub mod TrailLines
 pub mod Turns
 pub mod Ways
+pub mod Counting
+pub mod Ranking
+pub mod Parts
+pub mod Differing
+pub mod Telling
+pub mod Putting

@@ -1,11 +1,11 @@
 //! What an instruction depends on: registers, flags and bytes of the stack.
 
 ghost use Rattle.std.specs.Prelude.{◌≡◌, ◌<◌, ◌+◌};
-ghost use Rattle.uz_machine.specs.OperandRanges.{EffectFits, AddressModeFits};
+ghost use Rattle.uz_core.specs.OperandRanges.{EffectFits, AddressModeFits};
 ghost use Rattle.uz_explanations.specs.Known.{is_operand, is_in_pair, is_pointer, is_tested, is_target, reads_register};
 ghost use Rattle.uz_explanations.specs.Known.{reads_pair, is_carried, is_rotated, is_status, reads_flag, taken_slots};
 
-use uz_machine::{AddressMode, BinaryOp, Effect, JumpTarget, Operand, SkipTest, UnaryOp};
+use uz_core::{AddressMode, BinaryOp, Effect, JumpTarget, Operand, SkipTest, UnaryOp};
 
 /// Whether an operand is a register.
 fn is_register(operand: Operand, register: u8) -> bool

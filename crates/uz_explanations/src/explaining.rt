@@ -2,13 +2,13 @@
 
 ghost use Rattle.std.specs.Prelude.{◌≡◌, ◌++◌, IfOk, OnOk};
 ghost use Rattle.uz_explanations.specs.Readings.{Reading, IsReading};
-ghost use Rattle.uz_crowds.specs.Telling.{crowds_text};
+ghost use Rattle.uz_explanations.specs.Telling.{crowds_text};
 ghost use Rattle.uz_explanations.specs.Explanations.{explanation};
 
+use crate::crowd_text;
 use crate::ways::{add_way, add_ways};
 use avr_asm::Labels;
 use std::alloc::{AllocError, Global};
-use uz_crowds::crowd_text;
 use uz_hex::Image;
 use uz_search::{Instances, NotFound};
 

@@ -5,15 +5,14 @@ ghost use Rattle.uz_explanations.specs.Known.{fact_of, val_word, item_if, regist
 ghost use Rattle.uz_explanations.specs.Known.{slots_of, known_items, reads_line, known_line};
 ghost use Rattle.uz_explanations.specs.Pieces.{pieces};
 ghost use Rattle.uz_cert_writer.specs.Spelling.{fact_word, pair_word, flag_word};
-ghost use Rattle.uz_machine.specs.declared.Effect.TheVariants.{Return};
+ghost use Rattle.uz_core.specs.declared.machine.Effect.TheVariants.{Return};
 
 use crate::dependence::{reads_flag, reads_pair, reads_register, taken_slots};
 use crate::trail_lines::put_number;
 use avr_table::Instr;
 use std::alloc::{AllocError, Global};
 use uz_cert_writer::{add_fact, add_pair_fact, flag_word};
-use uz_core::effect;
-use uz_machine::Effect;
+use uz_core::{Effect, effect};
 use uz_schedule::{Bit, Fact, Instance, PairFact, Val, Wide};
 
 /// The letters of the pairs and of the flags.

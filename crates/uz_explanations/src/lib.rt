@@ -1,14 +1,20 @@
 //! Why a search finds no certificate, as a text: the way to the instance that is refused, or the two ways that differ.
 #![tactic(auto)]
 
+mod counting;
 mod dependence;
+mod differing;
 mod explaining;
 mod known;
 mod laws;
+mod parts;
+mod ranking;
 mod reading;
+mod telling;
 mod trail_lines;
 mod turns;
 mod ways;
 
 pub use explaining::explain;
 pub use laws::flash_has_one_reading;
+pub use telling::crowd_text;

@@ -8,3 +8,4 @@ pub mod ReadsLemmas
 pub mod TextLemmas
 pub mod WorkLemmas
 pub mod WriteLemmas
+pub mod RunFileLemmas

@@ -2,14 +2,14 @@
 use Rattle.std.specs.Prelude.{ℕ, List}
 use Rattle.avr_asm.specs.FirstFault.{IsFirstFault as IsSourceFault}
 use Rattle.avr_asm.specs.Relation.{IsAssembly}
-use Rattle.avr_operands.specs.WhyNames.{asm_why_name}
+use Rattle.avr_text.specs.WhyNames.{asm_why_name}
 use Rattle.uz_cert.specs.Texts.{IsCertificateText, IsFirstFault as IsCertificateFault}
 use Rattle.uz_hex.specs.HexText.{IsHexOf, IsFirstFault as IsHexFault}
 use Rattle.uz_hex.specs.WhyNames.{hex_why_name}
-use Rattle.uz_cert_words.specs.WhyNames.{cert_why_name}
+use Rattle.uz_cert_lines.specs.WhyNames.{cert_why_name}
 use Rattle.uz_cert_lines.specs.declared.version.Version.TheVariants.{First, Second}
 use Rattle.uz_schedule.specs.declared.certificate.Cert.{Cert}
-use Rattle.uz_text.specs.Lines.{lines_of}
+use Rattle.uz_hex.specs.Lines.{lines_of}
 use Rattle.uz_pads.specs.Lines.{IsFirstFault as IsPadFault, IsRead}
 use Rattle.uz_pads.specs.WhyNames.{pad_why_name}
 use Rattle.uz_pads.specs.declared.errors.PadWhy.{PadWhy}

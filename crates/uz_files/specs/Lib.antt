@@ -5,3 +5,5 @@ pub mod Lines
 pub mod Reading
 pub mod TextFaults
 pub mod Writing
+pub mod RunFiles
+pub mod StopLines

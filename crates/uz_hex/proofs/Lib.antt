@@ -13,3 +13,7 @@ pub mod TextLength
 pub mod Verdicts
 pub mod WhyLaws
 pub mod Written
+pub mod Cuts
+pub mod NumberWords
+pub mod Plain
+pub mod TextLines

@@ -23,7 +23,7 @@ use Rattle.uz_hex.specs.declared.records.RecordType.TheVariants.{Data, EndOfFile
 use Rattle.uz_hex.proofs.LineSteps.{parts_cons}
 use Rattle.uz_hex.proofs.PlaceLaws.{gives_left, gives_right, numbered_at, agree_held}
 use Rattle.uz_hex.proofs.CutLaws.{records_cut}
-use Rattle.uz_text.specs.Lines.{is_blank}
+use Rattle.uz_hex.specs.Lines.{is_blank}
 
 -- ---- bytes
 

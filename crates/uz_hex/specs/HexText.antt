@@ -9,7 +9,7 @@ use Rattle.std.specs.Str.Lines.{strip_carriage_return}
 use Rattle.std.specs.Ordering.{nat_cmp}
 use Rattle.std.specs.FinMap.{FinMap, get}
 use Rattle.hex.specs.Hex.{decode_of, is_hex_digit}
-use Rattle.uz_text.specs.Lines.{is_blank}
+use Rattle.uz_hex.specs.Lines.{is_blank}
 use Rattle.uz_hex.specs.Records.{Record, HasLength, code_of, Encodes, Spells, given, base_of, placed, HoldsByteAt}
 use Rattle.uz_hex.specs.declared.records.RecordType.{RecordType}
 use Rattle.uz_hex.specs.declared.records.RecordType.TheVariants.{EndOfFile}

@@ -4,3 +4,7 @@ pub mod Reading
 pub mod Records
 pub mod Writing
 pub mod WhyNames
+pub mod Cutting
+pub mod Hexadecimals
+pub mod Lines
+pub mod Numbers

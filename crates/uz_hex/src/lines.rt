@@ -3,7 +3,7 @@
 ghost use Rattle.std.specs.Prelude.{◌≡◌, ◌==◌, position};
 ghost use Rattle.uz_hex.specs.HexText.{trimmed};
 
-use uz_text::is_blank;
+use crate::is_blank;
 
 /// How many bytes stand before the first LF, or `None` where there is none.
 pub fn line_length(text: &[u8]) -> Option<usize>

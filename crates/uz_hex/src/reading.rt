@@ -15,8 +15,8 @@ use crate::errors::{HexError, HexWhy};
 use crate::image::Image;
 use crate::lines::{line_length, without_blanks};
 use crate::records::{Progress, RECORD_BYTES, RecordType, decode_line, kind_of};
+use crate::without_return;
 use std::alloc::Global;
-use uz_text::without_return;
 
 /// Whether a cell that is empty or holds a byte can take this one.
 fn takes(held: Option<u8>, byte: u8) -> bool

@@ -1,1 +1,8 @@
 pub mod PutLemmas
+pub mod EachLemmas
+pub mod EqualLists
+pub mod OldFacts
+pub mod SameFacts
+pub mod TellingLemmas
+pub mod TakenLemmas
+pub mod GrowthLemmas

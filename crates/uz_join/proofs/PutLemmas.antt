@@ -6,10 +6,10 @@ use Rattle.std.proofs.lemmas.Bool.{cases_eq}
 use Rattle.std.proofs.lemmas.List.{append-nil, reverse-append, reverse-reverse}
 use Rattle.std.proofs.lemmas.Option.{slice_get_within}
 use Rattle.uz_schedule.specs.declared.states.Point.{Point}
-use Rattle.uz_points.specs.Same.{AreTold, IsWhollyTold, SameInstances}
-use Rattle.uz_points.proofs.SameFacts.{wholly_itself}
-use Rattle.uz_points.proofs.TakenLemmas.{next_taken, none_dropped}
-use Rattle.uz_points.proofs.TellingLemmas.{front, last_of}
+use Rattle.uz_join.specs.Same.{AreTold, IsWhollyTold, SameInstances}
+use Rattle.uz_join.proofs.SameFacts.{wholly_itself}
+use Rattle.uz_join.proofs.TakenLemmas.{next_taken, none_dropped}
+use Rattle.uz_join.proofs.TellingLemmas.{front, last_of}
 use Rattle.uz_join.specs.declared.replacing.Replacing.{Replacing}
 use Rattle.uz_join.specs.Replacing.{AreSoFar, IsPut}
 

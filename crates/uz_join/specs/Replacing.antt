@@ -1,7 +1,7 @@
 -- Points one behind the other, each for itself or for others that are let go.
 use Rattle.std.specs.Prelude.{◌≡◌, ℕ, ◌<◌, List, [], ◌∷◌, ◌++◌, Some, drop, reverse, slice_get}
 use Rattle.uz_schedule.specs.declared.states.Point.{Point}
-use Rattle.uz_points.specs.Same.{AreTold, IsWhollyTold}
+use Rattle.uz_join.specs.Same.{AreTold, IsWhollyTold}
 use Rattle.uz_join.specs.declared.replacing.Replacing.{Replacing}
 
 -- a point was put behind others, whatever it leads to

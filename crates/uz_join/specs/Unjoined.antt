@@ -3,8 +3,8 @@ use Rattle.std.specs.Prelude.{⊤}
 use Rattle.uz_hex.specs.Reading.{Flash}
 use Rattle.uz_schedule.specs.WellFormed.{WellFormed}
 use Rattle.uz_schedule.specs.declared.certificate.Cert.{Cert}
-use Rattle.uz_soundness.specs.Acceptance.{Accepts}
-use Rattle.uz_points.specs.Same.{SameInstances}
+use Rattle.uz_check.specs.Acceptance.{Accepts}
+use Rattle.uz_join.specs.Same.{SameInstances}
 use Rattle.uz_join.specs.Joined.{SameButPoints}
 use Rattle.uz_join.specs.declared.choice.Unjoined.{Unjoined}
 use Rattle.uz_join.specs.declared.choice.Unjoined.TheVariants.{Memory, Refused}

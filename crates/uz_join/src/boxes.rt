@@ -4,9 +4,9 @@ use crate::chains::Chains;
 use crate::copies::copy_of;
 use crate::source::Source;
 use crate::successors::with_numbers;
+use crate::{Axis, fact_along};
 use arrayvec::ArrayVec;
 use std::alloc::{AllocError, Global};
-use uz_points::{Axis, fact_along};
 use uz_schedule::{Fact, Point};
 
 /// What is known of each register all along a box.

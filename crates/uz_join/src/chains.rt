@@ -1,8 +1,8 @@
 //! Chains of points: each point is in one at most, and knows the one after it.
 
 use crate::source::Source;
+use crate::{NONE, nones, number_at, number_of};
 use std::alloc::{AllocError, Global};
-use uz_points::{NONE, nones, number_at, number_of};
 
 /// A point's place among the first points of chains, as a number: its line in the upper half, and its own number in the lower one.
 fn rank(line: u16, id: u32) -> u64 {

@@ -2,19 +2,18 @@
 
 ghost use Rattle.std.specs.Prelude.{◌≡◌, false, true, IfErr, IfOk, OnOk, Ok as OkOf};
 ghost use Rattle.uz_schedule.specs.WellFormed.{WellFormed};
-ghost use Rattle.uz_soundness.specs.Acceptance.{Accepts};
+ghost use Rattle.uz_check.specs.Acceptance.{Accepts};
 ghost use Rattle.uz_join.specs.Joined.{SameButPoints};
 ghost use Rattle.uz_join.specs.Unjoined.{IsUnjoined};
-ghost use Rattle.uz_points.specs.Same.{SameInstances};
+ghost use Rattle.uz_join.specs.Same.{SameInstances};
 
 use crate::copies::{entry_of, rests_of};
 use crate::joining::joined_both;
 use std::alloc::{AllocError, Global};
 use std::mem::replace;
-use uz_cert_limits::well_formed;
 use uz_check::verdict;
 use uz_hex::Image;
-use uz_schedule::{Cert, Sequence};
+use uz_schedule::{Cert, Sequence, well_formed};
 
 /// Why a certificate isn't joined.
 #[derive(Drop)]

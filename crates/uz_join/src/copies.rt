@@ -3,9 +3,9 @@
 ghost use Rattle.std.specs.Prelude.{◌≡◌, ◌≤◌, IfOk, length, map};
 ghost use Rattle.uz_join.specs.Joined.{rest_unnumbered, entry_unnumbered};
 
+use crate::number_at;
 use arrayvec::ArrayVec;
 use std::alloc::{AllocError, Global};
-use uz_points::number_at;
 use uz_schedule::{Entry, Fact, Point, Rest, Sequence, Span};
 
 /// A copy of a value, at once.

@@ -2,11 +2,11 @@
 
 use crate::chains::Chains;
 use crate::source::{Source, is_node_joinable};
-use std::alloc::{AllocError, Global};
-use uz_points::{
+use crate::{
     Axis, Growth, NONE, Shaped, distance, goes_on, is_joinable, key, node_key, number_of,
     same_shape,
 };
+use std::alloc::{AllocError, Global};
 
 /// The most chains that are tried for a point, so that the time stays linear in the points.
 const TRIED: usize = 64;

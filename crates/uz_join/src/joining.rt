@@ -1,15 +1,15 @@
 //! Points joined line by line, and count by count.
 
 ghost use Rattle.std.specs.Prelude.{◌≡◌, IfOk, None as NoneOf};
-ghost use Rattle.uz_points.specs.Same.{SameInstances};
+ghost use Rattle.uz_join.specs.Same.{SameInstances};
 
 use crate::chains::Chains;
 use crate::finding::chains_of;
 use crate::replacing::{Joined, replaced};
 use crate::source::Source;
 use crate::successors::{Numbering, cut_to_successors};
+use crate::{Axis, number_at};
 use std::alloc::{AllocError, Global};
-use uz_points::{Axis, number_at};
 use uz_schedule::Point;
 
 /// The chains of points along an axis, each of which leads to at most 16 others. None where there are none, or they were cut too often.

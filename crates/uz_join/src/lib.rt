@@ -3,17 +3,33 @@
 //! only believed where the check accepts it.
 #![tactic(auto)]
 
+mod axis;
 mod boxes;
 mod chains;
 mod choice;
+mod comparing;
 mod copies;
+mod facts;
 mod finding;
 mod joining;
 mod nodes;
+mod numbers;
+mod points;
 mod replacing;
+mod sameness;
+mod saying;
+mod shape;
 mod source;
 mod successors;
+mod telling;
 
+pub use axis::Axis;
 pub use choice::{Unjoined, joined, passes};
 pub use copies::{entry_of, rests_of};
+pub use facts::{Told, fact_along};
 pub use nodes::{JoinedNodes, joined_nodes};
+pub use numbers::{NONE, nones, number_at, number_of};
+pub use points::{pair_facts, point_of, vector_point};
+pub use sameness::{Guide, is_wholly_told};
+pub use shape::{Growth, Shaped, distance, goes_on, is_joinable, key, node_key, same_shape};
+pub use telling::say_instances;

@@ -1,15 +1,15 @@
 //! The points into which the instances of a search are joined: none is made of each instance before.
 
 ghost use Rattle.std.specs.Prelude.{◌≡◌, IfOk, IfSome};
-ghost use Rattle.uz_points.specs.Telling.{SaysInstances};
+ghost use Rattle.uz_join.specs.Telling.{SaysInstances};
 
 use crate::boxes::chain_points;
 use crate::finding::chains_of;
 use crate::joining::{joined_along, joined_numbers};
 use crate::source::Source;
 use crate::successors::{Numbering, cut_to_successors, with_number};
+use crate::{Axis, say_instances};
 use std::alloc::{AllocError, Global};
-use uz_points::{Axis, say_instances};
 use uz_schedule::{Instance, Point};
 
 /// So many points are made beside the instances however few those are.

@@ -2,16 +2,16 @@
 
 ghost use Rattle.std.specs.Prelude.{◌≡◌, ◌≤◌, ◌+◌, ◌++◌, ℕ, List, [], true, IfOk, IfSome, IsNone, IsSome, OnOk, length, option_to_list};
 ghost use Rattle.uz_schedule.specs.declared.states.Point.{Point as PointType};
-ghost use Rattle.uz_points.specs.Same.{IsWhollyTold, SameInstances};
+ghost use Rattle.uz_join.specs.Same.{IsWhollyTold, SameInstances};
 ghost use Rattle.uz_join.specs.Replacing.{AreSoFar, IsPut};
 
 use crate::boxes::box_of;
 use crate::chains::Chains;
 use crate::source::Source;
 use crate::successors::with_numbers;
+use crate::{Axis, Guide, NONE, is_wholly_told, number_at, number_of};
 use arrayvec::ArrayVec;
 use std::alloc::{AllocError, Global};
-use uz_points::{Axis, Guide, NONE, is_wholly_told, number_at, number_of};
 use uz_schedule::Point;
 
 /// How often memory is given back while points are let go.

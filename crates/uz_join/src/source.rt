@@ -1,8 +1,8 @@
 //! What is joined: points that are made, and behind them those of instances, of which each is made where it is looked at.
 
 use crate::copies::copied_point;
+use crate::{number_at, number_of, point_of};
 use arrayvec::ArrayVec;
-use uz_points::{number_at, number_of, point_of};
 use uz_schedule::{Instance, Kind, Point};
 
 /// Points that are made, and behind them those of instances. An instance may be one of those that a made point stands for: then it has no

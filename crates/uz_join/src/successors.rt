@@ -2,9 +2,9 @@
 
 use crate::chains::Chains;
 use crate::source::Source;
+use crate::{NONE, number_at};
 use arrayvec::ArrayVec;
 use std::alloc::{AllocError, Global};
-use uz_points::{NONE, number_at};
 
 /// How often chains are gone over. Each time those are cut that lead to too many others, and that may have come to be more.
 const PASSES: u32 = 64;

@@ -6,8 +6,8 @@ use Rattle.std.proofs.lemmas.Bool.Decides.{nat_tests}
 use Rattle.std.proofs.lemmas.List.{length-map}
 use Rattle.std.proofs.lemmas.List.Sums.{sum_by-cons}
 use Rattle.std.proofs.Math.ListN.{get_or-map}
-use Rattle.uz_machine.specs.Arithmetic.{bit_value, bit_is_set}
-use Rattle.uz_machine.specs.PadLine.{PadHistory, changes_of, changes_since_latch, is_fall, is_rise, latches, moves, pad_lines, with_level}
+use Rattle.uz_core.specs.Arithmetic.{bit_value, bit_is_set}
+use Rattle.uz_core.specs.PadLine.{PadHistory, changes_of, changes_since_latch, is_fall, is_rise, latches, moves, pad_lines, with_level}
 use Rattle.uz_pads.specs.declared.pads.Pad.{Pad}
 use Rattle.uz_pads.specs.declared.pads.Pads.{Pads}
 use Rattle.uz_pads.specs.declared.pads.PadState.{PadState}

@@ -6,7 +6,7 @@ use Rattle.std.proofs.Math.ListN.{get_or-append}
 use Rattle.std.proofs.lemmas.Bool.Decides.{nat_tests}
 use Rattle.std.proofs.lemmas.List.{get_or-take, length-map, length-replicate, length-take, map-append}
 use Rattle.std.proofs.lemmas.List as lists
-use Rattle.uz_machine.specs.PadLine.{PadHistory, latches}
+use Rattle.uz_core.specs.PadLine.{PadHistory, latches}
 use Rattle.uz_pads.specs.declared.pads.Pad.{Pad}
 use Rattle.uz_pads.specs.declared.pads.Pads.{Pads}
 use Rattle.uz_pads.specs.Pads.{StandsFor, StateStandsFor, pairs_of, list_of, pad_state_of, latched_pad, no_pad, held_list, holding, pads_left}

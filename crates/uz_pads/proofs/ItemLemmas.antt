@@ -3,8 +3,8 @@ use Rattle.std.proofs.Common.{◌≡◌, ◌≢◌, ℕ, ◌+◌, ◌<◌, ◌�
 use Rattle.std.proofs.Common.{map, Bor, refl, sym, ◌∙◌, ap, subst, append_assoc, append-nil, arith}
 use Rattle.std.proofs.lemmas.List.{length-append}
 use Rattle.std.proofs.lemmas.List.Elements.{All-append, All-nil, All-cons}
-use Rattle.uz_text.specs.Lines.{line_at, lines_of_pieces}
-use Rattle.uz_text.proofs.TextLines.{taken_more}
+use Rattle.uz_hex.specs.Lines.{line_at, lines_of_pieces}
+use Rattle.uz_hex.proofs.TextLines.{taken_more}
 use Rattle.uz_pads.specs.ItemTexts.{IsFirstFaulty, IsText, items_in}
 use Rattle.uz_pads.proofs.LineCuts.{all_taken, cut_at}
 

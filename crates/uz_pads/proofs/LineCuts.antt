@@ -2,8 +2,8 @@
 use Rattle.std.proofs.Common.{◌≡◌, ℕ, suc, ◌+◌, ◌<◌, ◌≤◌, List, [], ◌∷◌, ◌++◌, length, take, drop, map, Bor, sym, ◌∙◌, ap, arith}
 use Rattle.std.proofs.Common.{drop-cons}
 use Rattle.std.proofs.lemmas.List.{length-map, length-take-le, take-append-drop, take_all}
-use Rattle.uz_text.specs.Lines.{line_at, lines_of_pieces}
-use Rattle.uz_text.proofs.TextLines.{line_count, line_here}
+use Rattle.uz_hex.specs.Lines.{line_at, lines_of_pieces}
+use Rattle.uz_hex.proofs.TextLines.{line_count, line_here}
 
 -- all lines, at their end
 pub all_taken : (pieces : List (Bor (List ℕ))) (at : ℕ) → length pieces ≤ at →

@@ -4,7 +4,7 @@ use Rattle.uz_pads.specs.declared.pads.Pad.{Pad}
 use Rattle.uz_pads.specs.declared.lines.Line.TheVariants.{Blank, Pair, Faulty}
 use Rattle.uz_pads.specs.declared.errors.PadWhy.TheVariants.{Digits, Count}
 use Rattle.uz_pads.specs.Lines.{HasFault, IsFault, IsFirstFault, IsRead, is_good_line, is_well_formed, kind_of, pads_of, pads_on}
-use Rattle.uz_text.specs.Lines.{line_at, lines_of_pieces}
+use Rattle.uz_hex.specs.Lines.{line_at, lines_of_pieces}
 use Rattle.uz_pads.proofs.ItemLemmas.{blank_read, faulty_at, item_read, nothing_read, whole_read}
 
 pub read_none : (pieces : List (Bor (List ℕ))) → IsRead (take 0 (lines_of_pieces (map (λ piece. piece.now) pieces))) []

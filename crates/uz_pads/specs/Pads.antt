@@ -1,9 +1,9 @@
 -- What a value of the pads stands for, and what becomes of it.
 use Rattle.std.specs.Prelude.{◌≡◌, ℕ, ◌+◌, ◌-◌, ◌*◌, not, if◌then◌else◌, List, [], ◌∷◌, length, map, min, slice_index_or, nat_le, nat_lt, ◌++◌, take, replicate}
 use Rattle.std.specs.Prelude.{Option, Some, None, Result, is_ok}
-use Rattle.uz_machine.specs.Arithmetic.{bit_value, bit_is_set}
-use Rattle.uz_machine.specs.PadLine.{PadHistory, is_fall, is_rise, latches, moves}
-use Rattle.uz_machine.specs.Space.{PadWiring}
+use Rattle.uz_core.specs.Arithmetic.{bit_value, bit_is_set}
+use Rattle.uz_core.specs.PadLine.{PadHistory, is_fall, is_rise, latches, moves}
+use Rattle.uz_core.specs.Space.{PadWiring}
 use Rattle.uz_pads.specs.declared.pads.Pad.{Pad}
 use Rattle.uz_pads.specs.declared.pads.Pads.{Pads}
 use Rattle.uz_pads.specs.declared.pads.PadState.{PadState}

@@ -3,7 +3,7 @@
 ghost use Rattle.std.specs.Prelude.{◌≡◌};
 ghost use Rattle.uz_pads.specs.WhyNames.{pad_why_name};
 
-use uz_text::{LineError, LineWhy};
+use uz_hex::{LineError, LineWhy};
 
 /// Why a line is refused, in the order of the numbers, from 1.
 #[derive(Clone, Copy, Debug)]

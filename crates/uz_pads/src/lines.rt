@@ -4,7 +4,7 @@ ghost use Rattle.std.specs.Prelude.{◌≡◌};
 ghost use Rattle.uz_pads.specs.Lines.{word_of, pair_in, kind_of, is_blank_line as is_blank_of};
 
 use crate::Pad;
-use uz_text::is_blank;
+use uz_hex::is_blank;
 
 /// What a line of a pad file is.
 #[derive(Clone, Copy)]

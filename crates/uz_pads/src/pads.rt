@@ -1,9 +1,9 @@
 //! The pads, and the lines that they drive.
 
 ghost use Rattle.std.specs.Prelude.{◌≡◌, ◌<◌, ◌≤◌, ◌+◌, ◌∷◌, [], not, length, List, IfOk};
-ghost use Rattle.uz_machine.specs.Arithmetic.{bit_value, bit_is_set};
-ghost use Rattle.uz_machine.specs.PadLine.{PadHistory, pad_lines, with_level, is_fall, is_rise, latches};
-ghost use Rattle.uz_machine.specs.Turn.{history_at_reset};
+ghost use Rattle.uz_core.specs.Arithmetic.{bit_value, bit_is_set};
+ghost use Rattle.uz_core.specs.PadLine.{PadHistory, pad_lines, with_level, is_fall, is_rise, latches};
+ghost use Rattle.uz_core.specs.Turn.{history_at_reset};
 
 use std::alloc::{AllocError, Global};
 

@@ -1,7 +1,7 @@
 //! Reading a pad file.
 
 ghost use Rattle.std.specs.Prelude.{◌≡◌, ◌<◌, ◌-◌, ◌^◌, ◌⊎◌, IfOk, IfErr, length, map};
-ghost use Rattle.uz_text.specs.Lines.{lines_of, lines_of_pieces};
+ghost use Rattle.uz_hex.specs.Lines.{lines_of, lines_of_pieces};
 ghost use Rattle.uz_pads.specs.Lines.{IsRead, IsFirstFault};
 ghost use Rattle.uz_pads.specs.declared.errors.PadWhy.TheVariants.{Memory};
 
@@ -9,7 +9,7 @@ use crate::errors::{PadError, PadWhy};
 use crate::lines::{Line, line_kind};
 use crate::pads::Pad;
 use std::alloc::Global;
-use uz_text::{line_at, pieces};
+use uz_hex::{line_at, pieces};
 
 /// The greatest number of pairs in a file.
 const MAX_PAIRS: usize = 65_536;

@@ -24,7 +24,7 @@ use Rattle.uz_schedule.specs.declared.states.Point.{Point}
 use Rattle.uz_schedule.specs.declared.states.Rest.{Rest}
 use Rattle.uz_rules.specs.Inside.{inside, known_inside, place_of_itself, same_place, KnownInItself, PlaceHolds, PlaceTells}
 use Rattle.uz_rules.specs.Successors.{any_from, lies_at, lies_in_any, lies_in_box, lies_in_point}
-use Rattle.uz_soundness.specs.Acceptance.{Accepts}
+use Rattle.uz_check.specs.Acceptance.{Accepts}
 use Rattle.uz_search.specs.declared.found.Found.{Found}
 use Rattle.uz_search.specs.declared.program.Program.{Program}
 use Rattle.uz_search.specs.Fitting.{ProgramFits, Stands}
@@ -34,15 +34,15 @@ use Rattle.uz_search.specs.Searching.{IsEnded}
 use Rattle.uz_search.specs.Widened.{widened}
 use Rattle.uz_search.proofs.TimerLaws.{last_clock}
 use Rattle.uz_search.proofs.VisitingLemmas.{some_is}
-use Rattle.uz_search_laws.specs.Complete.{EndedFallsOnce, EndedLevels, EndedLevelsFit, EndedRestsAreQuiet, EndedRestsEnter, HasSuccessors}
-use Rattle.uz_search_laws.specs.Limits.{EndedWithinLimits, IsWithinLimits, LiesInWidened}
-use Rattle.uz_search_laws.specs.Made as made_of
-use Rattle.uz_search_laws.specs.Accepting.{ArePointsOf, EndedAccepts, IsRestOf, StandsFor}
+use Rattle.uz_search.specs.Complete.{EndedFallsOnce, EndedLevels, EndedLevelsFit, EndedRestsAreQuiet, EndedRestsEnter, HasSuccessors}
+use Rattle.uz_search.specs.Limits.{EndedWithinLimits, IsWithinLimits, LiesInWidened}
+use Rattle.uz_search.specs.Made as made_of
+use Rattle.uz_search.specs.Accepting.{ArePointsOf, EndedAccepts, IsRestOf, StandsFor}
 use Rattle.uz_paths.specs.declared.certificate.Parts.{Parts}
 use Rattle.uz_paths.specs.Certificate.{ArePartsOf, IsEntry, ReturnsFromMain, cert_of}
 use Rattle.uz_paths.specs.Linked.{AreEntered, NamesFit, NamesResults, first_after}
 use Rattle.uz_paths.specs.Numbers.{Numbered}
-use Rattle.uz_points.specs.Points.{IsOrdered, point_of, vector_after}
+use Rattle.uz_join.specs.Points.{IsOrdered, point_of, vector_after}
 use Rattle.uz_paths.specs.Rests.{rests_of}
 use Rattle.uz_paths.proofs.Counting.{at_least, sum_few}
 use Rattle.uz_paths.proofs.MadeSchedule.{EventByLine, is_fit, is_made}

@@ -7,22 +7,22 @@ use Rattle.std.proofs.lemmas.List.{length-map}
 use Rattle.avr_table.specs.declared.Outcome.{Outcome}
 use Rattle.avr_table.specs.declared.Outcome.TheVariants as outcome
 use Rattle.avr_table.specs.Rows.{clocks_of, words_of}
-use Rattle.uz_machine.specs.Effects.{effect_of}
-use Rattle.uz_machine.specs.declared.Effect.{Effect}
-use Rattle.uz_machine.specs.declared.Effect.TheVariants.{NoOperation, Branch, SkipIf, Jump, Return}
-use Rattle.uz_machine.specs.declared.JumpTarget.{JumpTarget}
-use Rattle.uz_machine.specs.declared.JumpTarget.TheVariants.{Absolute, Relative, Indirect}
-use Rattle.uz_machine.specs.declared.SkipTest.{SkipTest}
+use Rattle.uz_core.specs.Effects.{effect_of}
+use Rattle.uz_core.specs.declared.machine.Effect.{Effect}
+use Rattle.uz_core.specs.declared.machine.Effect.TheVariants.{NoOperation, Branch, SkipIf, Jump, Return}
+use Rattle.uz_core.specs.declared.machine.JumpTarget.{JumpTarget}
+use Rattle.uz_core.specs.declared.machine.JumpTarget.TheVariants.{Absolute, Relative, Indirect}
+use Rattle.uz_core.specs.declared.machine.SkipTest.{SkipTest}
 use Rattle.uz_schedule.specs.Ends.{Ends}
 use Rattle.uz_schedule.specs.Instances.{handler_entry}
 use Rattle.uz_schedule.specs.declared.header.Head.{Head}
 use Rattle.uz_schedule.specs.declared.states.Instance.{Instance}
-use Rattle.uz_transfer.specs.declared.fail.Fail.{Fail}
-use Rattle.uz_transfer.specs.declared.step.Exit.{Exit}
-use Rattle.uz_transfer.specs.Exits.{choices, decided, flag_of_kind, jump_pcs, numbers_from, outcomes, skip_outcome, test_decides}
-use Rattle.uz_transfer.specs.Refusals.{fail_of, refuse_if, target_fails}
-use Rattle.uz_transfer.specs.Step.{exits_of, following_of}
-use Rattle.uz_transfer.specs.Values.{pair_range}
+use Rattle.uz_rules.specs.declared.fail.Fail.{Fail}
+use Rattle.uz_rules.specs.declared.step.Exit.{Exit}
+use Rattle.uz_rules.specs.Exits.{choices, decided, flag_of_kind, jump_pcs, numbers_from, outcomes, skip_outcome, test_decides}
+use Rattle.uz_rules.specs.Refusals.{fail_of, refuse_if, target_fails}
+use Rattle.uz_rules.specs.Step.{exits_of, following_of}
+use Rattle.uz_rules.specs.Values.{pair_range}
 use Rattle.uz_rules.specs.declared.next.Next.{Next}
 use Rattle.uz_search.specs.declared.program.Program.{Program}
 use Rattle.uz_search.specs.Following.{After, Flash}

@@ -18,9 +18,9 @@ use Rattle.uz_search.specs.Following.{Among}
 use Rattle.uz_search.specs.Refusing.{Refusal}
 use Rattle.uz_search.specs.Searching.{IsEnded}
 use Rattle.uz_search.specs.Trails.{OnTrail}
-use Rattle.uz_hints.specs.declared.reading.Reading.{Reading}
-use Rattle.uz_hints.specs.Faults.{IsFine, FactPart, FactsFine}
-use Rattle.uz_hints.specs.Reading.{IsReading}
+use Rattle.uz_paths.specs.declared.reading.Reading.{Reading}
+use Rattle.uz_paths.specs.Faults.{IsFine, FactPart, FactsFine}
+use Rattle.uz_paths.specs.Reading.{IsReading}
 use Rattle.uz_paths.specs.declared.certificate.Parts.{Parts}
 use Rattle.uz_paths.specs.Certificate.{ArePartsOf, cert_of}
 use Rattle.uz_paths.specs.Finding.{instance_limit, Cause, NoCause, IsFoundBy, IsAsked}

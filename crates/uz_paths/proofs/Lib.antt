@@ -14,3 +14,9 @@ pub mod Counting
 pub mod Complete
 pub mod JoinedLemmas
 pub mod ListLemmas
+pub mod HintLemmas
+pub mod CellLemmas
+pub mod HalfLemmas
+mod HeadLemmas
+pub mod OneRefusal
+pub mod RuleLemmas

@@ -23,7 +23,7 @@ use Rattle.uz_search.specs.Widened.{widened}
 use Rattle.uz_paths.specs.Linked.{IsVectorAt, IsPointAt, HasName, NamesFit, NamesMore, NamesResults, NamesEntries, NamesVectors, NamesOwn}
 use Rattle.uz_paths.specs.Linked.{ArePoints, HaveNumbers, Renamed}
 use Rattle.uz_paths.specs.Plan.{AreMade}
-use Rattle.uz_points.specs.Points.{AreOrdered, point_of, vector_after}
+use Rattle.uz_join.specs.Points.{AreOrdered, point_of, vector_after}
 use Rattle.uz_paths.specs.Successors.{count_below, is_number, with_number}
 use Rattle.uz_paths.specs.Numbers.{AreNumbers}
 use Rattle.uz_paths.proofs.NumberLemmas.{at_more, keeps, last_there, numbers_below}

@@ -19,9 +19,9 @@ use Rattle.uz_search.specs.declared.program.Program.{Program}
 use Rattle.uz_search.specs.Fitting.{ProgramFits}
 use Rattle.uz_search.specs.Following.{Flash, line_start, lines_of}
 use Rattle.uz_search.specs.Searching.{IsEnded}
-use Rattle.uz_search_laws.specs.Complete.{EndedFallsOnce, EndedLevelsFit}
-use Rattle.uz_search_laws.specs.Made.{event_of, marked_at}
-use Rattle.uz_search_laws.specs.Made as laws
+use Rattle.uz_search.specs.Complete.{EndedFallsOnce, EndedLevelsFit}
+use Rattle.uz_search.specs.Made.{event_of, marked_at}
+use Rattle.uz_search.specs.Made as laws
 use Rattle.uz_paths.specs.Kinds.{event_here, events_from, line_events, noted, IsKind, IsScheduleOf}
 
 -- the event at a clock of a line is that of the line's kind

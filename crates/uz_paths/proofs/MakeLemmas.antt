@@ -20,8 +20,8 @@ use Rattle.uz_paths.specs.Linked.{NamesVectors}
 use Rattle.uz_paths.specs.Lists.{HasListAt, IsListAt}
 use Rattle.uz_paths.specs.Numbers.{AreNumbers, IsVectorOf}
 use Rattle.uz_paths.specs.Plan.{AreLinks, AreMade, IsLinkAt, IsPlan}
-use Rattle.uz_points.specs.Points.{IsOrdered, point_of}
-use Rattle.uz_points.proofs.TakenLemmas.{next_taken}
+use Rattle.uz_join.specs.Points.{IsOrdered, point_of}
+use Rattle.uz_join.proofs.TakenLemmas.{next_taken}
 use Rattle.uz_paths.proofs.LinkLemmas.{own_passed}
 use Rattle.uz_paths.proofs.NumberLemmas.{at_more, keeps, last_there, more_vector, more_own, none_numbered, same_count}
 

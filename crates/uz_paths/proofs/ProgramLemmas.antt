@@ -23,12 +23,12 @@ use Rattle.uz_search.specs.declared.program.Program.{Program}
 use Rattle.uz_search.specs.Fitting.{StartFits, ProgramFits}
 use Rattle.uz_search.specs.Following.{Among, lines_of}
 use Rattle.uz_search.proofs.TimerLaws.{last_clock}
-use Rattle.uz_transfer.specs.Kinds.{is_main}
-use Rattle.uz_hints.specs.declared.words.Beginning.{Beginning}
-use Rattle.uz_hints.specs.declared.reading.Reading.{Reading}
-use Rattle.uz_hints.specs.Faults.{FactPart, FactsFine}
-use Rattle.uz_hints.specs.Reading.{IsReading, ReadingFits, LengthsFit}
-use Rattle.uz_hints.specs.Words.{halves, is_half, length_by}
+use Rattle.uz_rules.specs.Kinds.{is_main}
+use Rattle.uz_paths.specs.declared.words.Beginning.{Beginning}
+use Rattle.uz_paths.specs.declared.reading.Reading.{Reading}
+use Rattle.uz_paths.specs.Faults.{FactPart, FactsFine}
+use Rattle.uz_paths.specs.Reading.{IsReading, ReadingFits, LengthsFit}
+use Rattle.uz_paths.specs.Words.{halves, is_half, length_by}
 use Rattle.uz_paths.specs.ProgramOf.{entry_with, first_state, first_states, starts_of, AreKindsBy, AreShortened}
 
 some_is : {A : Type 0} (a b : A) → Some a ≡ Some b → a ≡ b

@@ -18,7 +18,7 @@ use Rattle.uz_search.specs.declared.returns.Return.{Return}
 use Rattle.uz_search.specs.Following.{Among}
 use Rattle.uz_search.specs.Searching.{IsEnded}
 use Rattle.uz_search.specs.Trails.{OnTrail}
-use Rattle.uz_search_laws.specs.Made.{AreRestsOf}
+use Rattle.uz_search.specs.Made.{AreRestsOf}
 use Rattle.uz_paths.specs.Finding.{IsReturn}
 use Rattle.uz_paths.specs.Rests.{rests_from, rests_of}
 

@@ -19,7 +19,7 @@ use Rattle.uz_schedule.specs.declared.facts.Val.TheVariants.{Range, Old, OldFlag
 use Rattle.uz_schedule.specs.declared.kinds.Kind.{Kind}
 use Rattle.uz_schedule.specs.declared.states.Instance.{Instance}
 use Rattle.uz_schedule.specs.declared.states.Point.{Point}
-use Rattle.uz_points.specs.Points.{byte_fact, fact_of, old_facts, pair_fact, pair_facts, point_of, range_fact, same_ends, vector_point}
+use Rattle.uz_join.specs.Points.{byte_fact, fact_of, old_facts, pair_fact, pair_facts, point_of, range_fact, same_ends, vector_point}
 
 -- Facts
 

@@ -22,10 +22,10 @@ use Rattle.uz_search.specs.declared.program.Program.{Program}
 use Rattle.uz_search.specs.Following.{Among}
 use Rattle.uz_search.proofs.Lists.{of_map}
 use Rattle.uz_search.proofs.VisitingLemmas.{some_is}
-use Rattle.uz_search_laws.specs.Limits.{Each, IsOpen, IsWithinLimits, OldFits}
-use Rattle.uz_hints.specs.declared.reading.Reading.{Reading}
-use Rattle.uz_hints.specs.declared.words.Beginning.{Beginning}
-use Rattle.uz_hints.specs.Reading.{ReadingFits}
+use Rattle.uz_search.specs.Limits.{Each, IsOpen, IsWithinLimits, OldFits}
+use Rattle.uz_paths.specs.declared.reading.Reading.{Reading}
+use Rattle.uz_paths.specs.declared.words.Beginning.{Beginning}
+use Rattle.uz_paths.specs.Reading.{ReadingFits}
 use Rattle.uz_paths.specs.Certificate.{IsEntry}
 use Rattle.uz_paths.specs.ProgramOf.{entry_with, first_state, first_states}
 use Rattle.uz_paths.proofs.ProgramLemmas.{first_of_five, first_of_one}

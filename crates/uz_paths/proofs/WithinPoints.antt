@@ -26,10 +26,10 @@ use Rattle.uz_search.specs.Following.{lines_of}
 use Rattle.uz_search.specs.declared.program.Program.{Program}
 use Rattle.uz_search.specs.Fitting.{Stands}
 use Rattle.uz_search.proofs.Lists.{of_map}
-use Rattle.uz_search_laws.specs.Limits.{IsOpen, IsWithinLimits, OldFits}
+use Rattle.uz_search.specs.Limits.{IsOpen, IsWithinLimits, OldFits}
 use Rattle.uz_paths.specs.Linked.{NamesFit}
-use Rattle.uz_points.specs.Points.{AreOrdered, AreOrderedVals, IsOrdered, IsOrderedVal, byte_fact, fact_of, old_facts, pair_fact, point_of}
-use Rattle.uz_points.specs.Points.{range_fact, same_ends, vector_point}
+use Rattle.uz_join.specs.Points.{AreOrdered, AreOrderedVals, IsOrdered, IsOrderedVal, byte_fact, fact_of, old_facts, pair_fact, point_of}
+use Rattle.uz_join.specs.Points.{range_fact, same_ends, vector_point}
 use Rattle.uz_paths.proofs.SameInstance.{both, ends_same, eq_of}
 
 -- Elements

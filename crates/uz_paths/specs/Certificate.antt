@@ -11,7 +11,7 @@ use Rattle.uz_search.specs.declared.found.Found.{Found}
 use Rattle.uz_search.specs.declared.program.Program.{Program}
 use Rattle.uz_search.specs.Following.{Among, Flash, order_of_program}
 use Rattle.uz_search.specs.Returning.{SomeReturn}
-use Rattle.uz_search_laws.specs.Limits.{IsWithinLimits}
+use Rattle.uz_search.specs.Limits.{IsWithinLimits}
 use Rattle.uz_paths.specs.declared.certificate.Parts.{Parts}
 use Rattle.uz_paths.specs.Kinds.{IsScheduleOf}
 use Rattle.uz_paths.specs.Linked.{ArePoints, AreNamed}

@@ -15,7 +15,7 @@ use Rattle.uz_search.specs.declared.program.Program.{Program}
 use Rattle.uz_search.specs.Following.{ReturnsTo, lines_of}
 use Rattle.uz_search.specs.Trails.{OnTrail}
 use Rattle.uz_search.specs.Refusing.{Refusal}
-use Rattle.uz_hints.specs.Faults.{HintRefusal}
+use Rattle.uz_paths.specs.Faults.{HintRefusal}
 use Rattle.uz_paths.specs.ProgramOf.{IsProgramOf, start_entry}
 
 -- the most distinct instances of a search

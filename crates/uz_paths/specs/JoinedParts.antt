@@ -5,7 +5,7 @@ use Rattle.uz_schedule.specs.declared.states.Entry.{Entry}
 use Rattle.uz_search.specs.declared.found.Found.{Found}
 use Rattle.uz_search.specs.declared.program.Program.{Program}
 use Rattle.uz_join.specs.Joined.{entry_unnumbered, rest_unnumbered}
-use Rattle.uz_points.specs.Telling.{SaysInstances}
+use Rattle.uz_join.specs.Telling.{SaysInstances}
 use Rattle.uz_paths.specs.declared.joined.JoinedParts.{JoinedParts}
 use Rattle.uz_paths.specs.Kinds.{IsScheduleOf}
 use Rattle.uz_paths.specs.Rests.{rests_of}

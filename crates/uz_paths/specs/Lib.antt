@@ -9,3 +9,8 @@ pub mod Plan
 pub mod ProgramOf
 pub mod Rests
 pub mod Successors
+pub mod Cells
+pub mod Faults
+pub mod Reading
+pub mod Rules
+pub mod Words

@@ -14,7 +14,7 @@ use Rattle.uz_search.specs.Fitting.{ProgramFits, Stands}
 use Rattle.uz_search.specs.Following.{Among, After, Flash, lines_of, order_of_program}
 use Rattle.uz_search.specs.Widened.{widened}
 use Rattle.uz_paths.specs.Numbers.{AreNumbers}
-use Rattle.uz_points.specs.Points.{AreOrdered, IsOrdered, point_of, vector_after}
+use Rattle.uz_join.specs.Points.{AreOrdered, IsOrdered, point_of, vector_after}
 
 -- the point of number k is the vector of this rest, the ranges of whose cells are in order
 pub record IsVectorAt (response : ℕ) (lines : Lines) (points : List Point) (k : ℕ) (rest : Rest) : Type 0 where

@@ -19,10 +19,10 @@ use Rattle.uz_search.specs.declared.widening.Widening.{Widening}
 use Rattle.uz_search.specs.declared.widening.Widening.TheVariants.{Register, Pair}
 use Rattle.uz_search.specs.Following.{lines_of}
 use Rattle.uz_search.specs.Widened.{facts_at}
-use Rattle.uz_hints.specs.declared.words.Beginning.{Beginning}
-use Rattle.uz_hints.specs.Words.{first_start, first_lines, halves, is_half, length_by}
-use Rattle.uz_hints.specs.Cells.{cells_of, first_values}
-use Rattle.uz_hints.specs.Reading.{IsHeader, start_registers}
+use Rattle.uz_paths.specs.declared.words.Beginning.{Beginning}
+use Rattle.uz_paths.specs.Words.{first_start, first_lines, halves, is_half, length_by}
+use Rattle.uz_paths.specs.Cells.{cells_of, first_values}
+use Rattle.uz_paths.specs.Reading.{IsHeader, start_registers}
 
 -- Facts
 

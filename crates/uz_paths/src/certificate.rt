@@ -23,8 +23,9 @@ use uz_hex::Image;
 use uz_schedule::{
     Cert, Entry, Head, Instance, Point, Rest, Schedule, Sequence, entry_state, event_by_line,
 };
-use uz_search::{Found, Program, nodes_are_reached};
-use uz_search_laws::{ended_falls_once, ended_levels_fit, ended_rests_enter};
+use uz_search::{
+    Found, Program, ended_falls_once, ended_levels_fit, ended_rests_enter, nodes_are_reached,
+};
 
 /// What a search makes of a certificate.
 #[derive(Drop)]

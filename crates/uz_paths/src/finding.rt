@@ -2,8 +2,8 @@
 
 ghost use Rattle.std.specs.Prelude.{◌≡◌, ◌<◌, ◌^◌, ◌⊎◌, ℕ, Err, IfOk, IfErr, IfSome, IsOk, IsSome, length};
 ghost use Rattle.uz_schedule.specs.WellFormed.{WellFormed};
-ghost use Rattle.uz_soundness.specs.Acceptance.{Accepts};
-ghost use Rattle.uz_hints.specs.Faults.{HintRefusal};
+ghost use Rattle.uz_check.specs.Acceptance.{Accepts};
+ghost use Rattle.uz_paths.specs.Faults.{HintRefusal};
 ghost use Rattle.uz_search.specs.Fitting.{ProgramFits};
 ghost use Rattle.uz_search.specs.Refusing.{Refusal};
 ghost use Rattle.uz_search.specs.Searching.{IsEnded};
@@ -15,17 +15,17 @@ ghost use Rattle.uz_paths.specs.Finding.{instance_limit, Cause, NoCause, IsFound
 use crate::certificate::{certificate_of, parts_of};
 use crate::joined::joined_certificate;
 use crate::program::program_of;
+use crate::read_hints;
 use avr_asm::Hint;
 use std::alloc::{AllocError, Global};
 use uz_hex::Image;
-use uz_hints::read_hints;
 use uz_join::joined;
 use uz_rules::{known_in_itself, place_holds, place_tells};
 use uz_schedule::{Cert, Entry, Response, event_by_line};
-use uz_search::{Found, NotFound, Program, nodes_are_reached, search};
-use uz_search_laws::{
-    ended_accepts, ended_falls_once, ended_levels, ended_levels_fit, ended_rests_are_quiet,
-    ended_rests_enter, ended_within_limits, lies_in_widened,
+use uz_search::{
+    Found, NotFound, Program, ended_accepts, ended_falls_once, ended_levels, ended_levels_fit,
+    ended_rests_are_quiet, ended_rests_enter, ended_within_limits, lies_in_widened,
+    nodes_are_reached, search,
 };
 
 /// The most distinct instances of a search.

@@ -4,11 +4,11 @@ ghost use Rattle.std.specs.Prelude.{◌≡◌, ◌<◌, ◌≤◌, ◌^◌, IfOk
 ghost use Rattle.uz_schedule.specs.Limits.{most_lines};
 ghost use Rattle.uz_schedule.specs.WellFormed.{WellFormed};
 ghost use Rattle.uz_schedule.specs.declared.states.Rest.{Rest};
-ghost use Rattle.uz_soundness.specs.Acceptance.{Accepts};
+ghost use Rattle.uz_check.specs.Acceptance.{Accepts};
 ghost use Rattle.uz_search.specs.Fitting.{ProgramFits};
 ghost use Rattle.uz_search.specs.Searching.{IsEnded};
 ghost use Rattle.uz_join.specs.Joined.{entry_unnumbered};
-ghost use Rattle.uz_points.specs.Telling.{SaysInstances};
+ghost use Rattle.uz_join.specs.Telling.{SaysInstances};
 ghost use Rattle.uz_paths.specs.Finding.{IsFoundBy};
 ghost use Rattle.uz_paths.specs.JoinedParts.{AreJoinedOf, joined_cert};
 ghost use Rattle.uz_paths.specs.Rests.{rests_of as rests_of_returns};

@@ -4,14 +4,14 @@ ghost use Rattle.std.specs.Prelude.{◌≡◌, ◌<◌, ◌≤◌, ◌++◌, ◌
 ghost use Rattle.uz_paths.specs.Linked.{AreNamed, ArePointed};
 ghost use Rattle.uz_paths.specs.Lists.{HasListAt, IsListAt};
 ghost use Rattle.uz_paths.specs.Plan.{IsPlan};
-ghost use Rattle.uz_points.specs.Points.{IsOrdered, point_of as point_for};
+ghost use Rattle.uz_join.specs.Points.{IsOrdered, point_of as point_for};
 
 use crate::linking::Plan;
 use crate::lists::{Lists, list_at};
 use indexmap::IndexSet;
 use std::alloc::AllocError;
 use uz_hex::Image;
-use uz_points::point_of;
+use uz_join::point_of;
 use uz_schedule::{Instance, Point, Rest, Schedule};
 use uz_search::Program;
 

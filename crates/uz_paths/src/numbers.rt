@@ -9,12 +9,12 @@ ghost use Rattle.uz_schedule.specs.declared.states.Rest.{Rest};
 ghost use Rattle.uz_paths.specs.Linked.{ArePoints};
 ghost use Rattle.uz_paths.specs.Numbers.{AreNumbers};
 ghost use Rattle.uz_paths.specs.Plan.{AreCounted};
-ghost use Rattle.uz_points.specs.Points.{AreOrdered, vector_after as vector_for};
+ghost use Rattle.uz_join.specs.Points.{AreOrdered, vector_after as vector_for};
 
 use crate::vectors::vector_of;
 use arrayvec::ArrayVec;
 use std::alloc::{AllocError, Global};
-use uz_points::vector_point;
+use uz_join::vector_point;
 use uz_schedule::{Instance, Point, Response, Rest, Schedule};
 use uz_search::last_clock;
 

@@ -10,19 +10,19 @@ ghost use Rattle.uz_schedule.specs.Tracked.{tracks as tracks_of};
 ghost use Rattle.uz_schedule.specs.declared.kinds.Response.{Response as ResponseKind};
 ghost use Rattle.uz_search.specs.Widened.{facts_in};
 ghost use Rattle.uz_search.specs.Fitting.{ProgramFits};
-ghost use Rattle.uz_hints.specs.Faults.{FactPart, FactsFine};
-ghost use Rattle.uz_hints.specs.Words.{is_half as is_half_by, length_by};
-ghost use Rattle.uz_hints.specs.Reading.{IsReading, ReadingFits, LengthsFit};
+ghost use Rattle.uz_paths.specs.Faults.{FactPart, FactsFine};
+ghost use Rattle.uz_paths.specs.Words.{is_half as is_half_by, length_by};
+ghost use Rattle.uz_paths.specs.Reading.{IsReading, ReadingFits, LengthsFit};
 ghost use Rattle.uz_paths.specs.Certificate.{IsEntry};
 ghost use Rattle.uz_paths.specs.ProgramOf.{widening_of as fact_of_place, hint_facts, facts_for, entry_with};
 ghost use Rattle.uz_paths.specs.ProgramOf.{first_state as state_at_first, first_states as states_at_first};
 ghost use Rattle.uz_paths.specs.ProgramOf.{AreKindsBy, AreShortened, IsProgramOf};
 
+use crate::{Beginning, Reading};
 use arrayvec::ArrayVec;
 use avr_asm::Hint;
 use std::alloc::{AllocError, Global};
 use std::collections::BTreeMap;
-use uz_hints::{Beginning, Reading};
 use uz_schedule::{
     Bit, Cell, Entry, HALF_LINE, Head, Instance, Kind, LineEvents, Response, SCANLINE, Schedule,
     Sequence, Span, Wide, entry_state, handler_entry, tracks,

@@ -10,11 +10,11 @@ use Rattle.std.proofs.Math.Nat.{min-le_right}
 use Rattle.std.proofs.Math.Seq.{take-append-add}
 use Rattle.uz_shelf.specs.Files.{AppendsAll, AppendsPrefix, Creates, CreatesOrKeeps, FileMap, WritesFile, bytes_so_far}
 use Rattle.uz_shelf.proofs.HeldLemmas.{insert_again}
-use Rattle.uz_machine.specs.PadLine.{PadHistory}
-use Rattle.uz_machine.specs.Turn.{State}
+use Rattle.uz_core.specs.PadLine.{PadHistory}
+use Rattle.uz_core.specs.Turn.{State}
 use Rattle.uz_scan.specs.Pictures.{newest_first, records}
-use Rattle.uz_machine.specs.declared.Edge.{Edge}
-use Rattle.uz_machine.specs.Run.{IsClockRun, IsStoppedRun}
+use Rattle.uz_core.specs.declared.machine.Edge.{Edge}
+use Rattle.uz_core.specs.Run.{IsClockRun, IsStoppedRun}
 use Rattle.uz_schedule.specs.declared.certificate.Cert.{Cert}
 use Rattle.uz_player.specs.Counting.{EntersAt}
 use Rattle.uz_player.specs.declared.player.Player.{Player}

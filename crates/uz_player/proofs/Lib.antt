@@ -1,3 +1,11 @@
 pub mod CaptureLaws
 pub mod PlayerLaws
 pub mod RecorderLaws
+pub mod CallLaws
+pub mod CallRuns
+pub mod FrameLaws
+pub mod PadMemory
+pub mod PadRunLaws
+pub mod PlayLaws
+pub mod StateLaws
+pub mod TurnsFrom

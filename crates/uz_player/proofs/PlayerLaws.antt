@@ -5,10 +5,10 @@ use Rattle.std.specs.Prelude.{IsSome}
 use Rattle.std.proofs.lemmas.Bool.{false≢true}
 use Rattle.std.proofs.lemmas.List.{reverse-append}
 use Rattle.uz_hex.specs.Cells.{word_of}
-use Rattle.uz_machine.specs.declared.Edge.{Edge}
-use Rattle.uz_machine.specs.PadLine.{PadHistory}
-use Rattle.uz_machine.specs.Turn.{State}
-use Rattle.uz_machine.specs.Run.{IsClockRun, IsRunPart, IsStoppedRun}
+use Rattle.uz_core.specs.declared.machine.Edge.{Edge}
+use Rattle.uz_core.specs.PadLine.{PadHistory}
+use Rattle.uz_core.specs.Turn.{State}
+use Rattle.uz_core.specs.Run.{IsClockRun, IsRunPart, IsStoppedRun}
 use Rattle.uz_core.specs.declared.step.Why.{Why}
 use Rattle.uz_schedule.specs.WellFormed.{WellFormed}
 use Rattle.uz_schedule.specs.Schedule.{frame_of}

@@ -4,9 +4,9 @@ use Rattle.std.proofs.Common.{ap, subst, ◌∙◌, arith}
 use Rattle.std.specs.Prelude.{nat_lt}
 use Rattle.std.proofs.Math.Nat.{mod-eq_of_lt}
 use Rattle.std.proofs.lemmas.List.{reverse-append, length-reverse}
-use Rattle.uz_machine.specs.declared.Edge.{Edge}
-use Rattle.uz_machine.specs.declared.EdgeKind.{EdgeKind}
-use Rattle.uz_machine.specs.declared.EdgeKind.TheVariants.{Sync, Pixel, Sound, Enter, Leave}
+use Rattle.uz_core.specs.declared.machine.Edge.{Edge}
+use Rattle.uz_core.specs.declared.machine.EdgeKind.{EdgeKind}
+use Rattle.uz_core.specs.declared.machine.EdgeKind.TheVariants.{Sync, Pixel, Sound, Enter, Leave}
 use Rattle.uz_scan.specs.declared.scanner.Scan.{Scan}
 use Rattle.uz_scan.specs.declared.scanner.Scan.TheVariants.{More, Line, Frame}
 use Rattle.uz_scan.specs.Pictures.{newest_first, records, record_of, row_records, row_records_of, end_records, end_records_of, shown_by}

@@ -3,3 +3,8 @@ pub mod Counting
 pub mod Endings
 pub mod Playing
 pub mod Seen
+pub mod Calls
+pub mod Frames
+pub mod PadRuns
+pub mod StateParts
+pub mod States

@@ -1,6 +1,6 @@
 -- What a recorder has seen.
 use Rattle.std.specs.Prelude.{◌≡◌, ℕ, ◌^◌, ◌<◌, ◌≤◌, List, [], ◌∷◌, ◌++◌, length, Option, Some, None}
-use Rattle.uz_machine.specs.declared.Edge.{Edge}
+use Rattle.uz_core.specs.declared.machine.Edge.{Edge}
 use Rattle.uz_scan.specs.Pictures.{end_bytes, last_row, newest_first, records, row_bytes}
 use Rattle.uz_scan.specs.Scanning as scanning
 use Rattle.uz_player.specs.declared.recorder.Record.{Record}

@@ -2,8 +2,8 @@
 
 ghost use Rattle.std.specs.Prelude.{◌≡◌, ◌≤◌, ◌<◌, [], List, ℕ, None, IfNone, IfSome, IsSome};
 ghost use Rattle.uz_console.specs.Consoles.{StandsFor, clock_of as console_clock};
-ghost use Rattle.uz_machine.specs.PadLine.{PadHistory};
-ghost use Rattle.uz_machine.specs.Turn.{State};
+ghost use Rattle.uz_core.specs.PadLine.{PadHistory};
+ghost use Rattle.uz_core.specs.Turn.{State};
 ghost use Rattle.uz_schedule.specs.Schedule.{frame_of};
 ghost use Rattle.uz_schedule.specs.WellFormed.{WellFormed};
 ghost use Rattle.uz_player.specs.Counting.{IsInLine};
@@ -12,11 +12,10 @@ use crate::counts::Counts;
 use crate::ending::{Ending, ended};
 use crate::recorder::{Record, Recorder};
 use arrayvec::ArrayVec;
-use uz_cert_limits::well_formed;
 use uz_console::{Approach, Console, PAGE, Paged};
-use uz_machine::Edge;
+use uz_core::Edge;
 use uz_scan::{end_record, row_record};
-use uz_schedule::Cert;
+use uz_schedule::{Cert, well_formed};
 
 /// A run's next record, or its end.
 #[derive(Drop)]

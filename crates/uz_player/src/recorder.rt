@@ -1,12 +1,12 @@
 //! The records and the numbers of edges, one by one.
 
 ghost use Rattle.std.specs.Prelude.{◌≡◌, ◌≤◌, [], List, None};
-ghost use Rattle.uz_machine.specs.declared.Edge.{Edge};
+ghost use Rattle.uz_core.specs.declared.machine.Edge.{Edge};
 ghost use Rattle.uz_scan.specs.Scanning.{clock_of};
 ghost use Rattle.uz_player.specs.Counting.{with_kind};
 
 use crate::counts::Counts;
-use uz_machine::{Edge, EdgeKind};
+use uz_core::{Edge, EdgeKind};
 use uz_scan::{FrameInfo, LineInfo, Scan, Scanner};
 
 /// Takes edges in the order of time.

@@ -3,8 +3,8 @@
 ghost use Rattle.std.specs.Prelude.{◌≡◌, ◌≤◌, [], IfOk, IsErrOf, IsSome, List, OnErr, Option, Some, ℕ};
 ghost use Rattle.uz_player.specs.Captures.{IsCapturePart, IsCaptured, IsPlayedInto};
 ghost use Rattle.uz_console.specs.Consoles.{StandsFor, clock_of as console_clock};
-ghost use Rattle.uz_machine.specs.PadLine.{PadHistory};
-ghost use Rattle.uz_machine.specs.Turn.{State};
+ghost use Rattle.uz_core.specs.PadLine.{PadHistory};
+ghost use Rattle.uz_core.specs.Turn.{State};
 ghost use Rattle.uz_player.specs.Playing.{Plays, cert_of, counts_of, limit_of};
 ghost use Rattle.uz_schedule.specs.WellFormed.{WellFormed};
 ghost use Rattle.uz_shelf.specs.Faults.{Rose};

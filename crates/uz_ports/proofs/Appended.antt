@@ -1,8 +1,8 @@
 -- Stores and edges in two parts.
 use Rattle.std.proofs.Common.{◌≡◌, List, [], ◌∷◌, ◌++◌, append_assoc, refl, sym, ◌∙◌, ap}
-use Rattle.uz_machine.specs.declared.HeldStore.{HeldStore}
-use Rattle.uz_machine.specs.Space.{Space, PadWiring, after_store}
-use Rattle.uz_machine.specs.Turn.{after_stores, all_edge_kinds, edge_kinds}
+use Rattle.uz_core.specs.declared.machine.HeldStore.{HeldStore}
+use Rattle.uz_core.specs.Space.{Space, PadWiring, after_store}
+use Rattle.uz_core.specs.Turn.{after_stores, all_edge_kinds, edge_kinds}
 
 pub after_stores-append : {P : Type 0} → (w : PadWiring P) (xs ys : List HeldStore) (s : Space P) → after_stores w (xs ++ ys)
     s ≡ after_stores w ys (after_stores w xs s)

@@ -1,8 +1,8 @@
 -- What the board reads over its own pads is what the pads that they stand for give.
 use Rattle.std.proofs.Common.{◌≡◌, ℕ, refl}
-use Rattle.uz_machine.specs.PadLine.{PadHistory}
-use Rattle.uz_machine.specs.Space.{Space, byte_at, history_wiring}
-use Rattle.uz_machine.proofs.Wirings.{Alike, same_byte}
+use Rattle.uz_core.specs.PadLine.{PadHistory}
+use Rattle.uz_core.specs.Space.{Space, byte_at, history_wiring}
+use Rattle.uz_core.proofs.Wirings.{Alike, same_byte}
 use Rattle.uz_pads.specs.declared.pads.Pads.{Pads}
 use Rattle.uz_pads.specs.Pads.{pads_wiring, StandsFor}
 use Rattle.uz_pads.proofs.History.{stands_after, lines_stand}

@@ -1,11 +1,11 @@
 -- Copies of a board, and what changes of it.
 use Rattle.std.specs.Prelude.{◌≡◌, ℕ, List, None}
-use Rattle.uz_machine.specs.Timer.{Timer}
+use Rattle.uz_core.specs.Timer.{Timer}
 use Rattle.uz_pads.specs.declared.pads.Pads.{Pads}
 use Rattle.uz_pads.specs.declared.pads.PadState.{PadState}
 use Rattle.uz_pads.specs.declared.pads.Pad.{Pad}
 use Rattle.uz_pads.specs.Pads.{held_list, list_of, pad_state_of, with_pad_state}
-use Rattle.uz_machine.specs.Space.{Space}
+use Rattle.uz_core.specs.Space.{Space}
 use Rattle.uz_ports.specs.declared.board.Board.{Board}
 use Rattle.uz_ports.specs.declared.copying.BoardState.{BoardState}
 use Rattle.uz_ports.specs.Boards.{BoardContent, space_of, held_of, entered_of, clock_of}

@@ -1,10 +1,10 @@
 -- The parts of a board.
 use Rattle.std.specs.Prelude.{ℕ, List, [], ◌∷◌, Option, Some, None}
-use Rattle.uz_machine.specs.declared.HeldStore.{HeldStore}
-use Rattle.uz_machine.specs.declared.Edge.{Edge}
-use Rattle.uz_machine.specs.declared.EdgeKind.TheVariants.{Enter}
-use Rattle.uz_machine.specs.Core.{LoadModel}
-use Rattle.uz_machine.specs.Space.{Space, space_loads}
+use Rattle.uz_core.specs.declared.machine.HeldStore.{HeldStore}
+use Rattle.uz_core.specs.declared.machine.Edge.{Edge}
+use Rattle.uz_core.specs.declared.machine.EdgeKind.TheVariants.{Enter}
+use Rattle.uz_core.specs.Core.{LoadModel}
+use Rattle.uz_core.specs.Space.{Space, space_loads}
 use Rattle.uz_pads.specs.declared.pads.Pads.{Pads}
 use Rattle.uz_pads.specs.Pads.{pads_wiring}
 use Rattle.uz_ports.specs.declared.board.Board.{Board}

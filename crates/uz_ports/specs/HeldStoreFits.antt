@@ -1,7 +1,7 @@
 -- The arguments of held stores.
 use Rattle.std.specs.Prelude.{ℕ, ◌<◌}
-use Rattle.uz_machine.specs.declared.HeldStore.{HeldStore}
-use Rattle.uz_machine.specs.declared.HeldStore.TheVariants.{Byte, Bit}
+use Rattle.uz_core.specs.declared.machine.HeldStore.{HeldStore}
+use Rattle.uz_core.specs.declared.machine.HeldStore.TheVariants.{Byte, Bit}
 
 -- the bit that a store changes
 abbrev pub bit_number : HeldStore → ℕ

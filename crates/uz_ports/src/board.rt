@@ -1,17 +1,16 @@
 //! The board and its readings.
 
 ghost use Rattle.std.specs.Prelude.{◌≡◌, ◌<◌, ◌+◌, ◌^◌, [], length, All, IfOk, if◌then◌else◌, None, Some};
-ghost use Rattle.uz_machine.specs.Core.{is_core_address};
-ghost use Rattle.uz_machine.specs.Space.{space_at_reset, byte_at, history_wiring, plain_byte};
-ghost use Rattle.uz_machine.specs.PadLine.{PadHistory};
+ghost use Rattle.uz_core.specs.Core.{is_core_address};
+ghost use Rattle.uz_core.specs.Space.{space_at_reset, byte_at, history_wiring, plain_byte};
+ghost use Rattle.uz_core.specs.PadLine.{PadHistory};
 ghost use Rattle.uz_pads.specs.Pads.{pad_state_of, pads_wiring, StandsFor};
 ghost use Rattle.uz_ports.specs.HeldStoreFits.{HeldStoreFits};
 
 use arrayvec::ArrayVec;
 use std::alloc::{AllocError, Global};
-use uz_core::Data;
-use uz_machine::HeldStore;
-use uz_machine::address::{PINA, PINB, PINC, PIND, PORTA, RAM_END, is_core_address};
+use uz_core::address::{PINA, PINB, PINC, PIND, PORTA, RAM_END, is_core_address};
+use uz_core::{Data, HeldStore};
 use uz_pads::{PadState, Pads};
 use uz_timer::Timer1;
 

@@ -8,4 +8,4 @@ mod stores;
 
 pub use board::Board;
 pub use copying::BoardState;
-pub use uz_machine::{Edge, EdgeKind};
+pub use uz_core::{Edge, EdgeKind};

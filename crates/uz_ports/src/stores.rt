@@ -2,20 +2,19 @@
 
 ghost use Rattle.std.specs.Prelude.{◌≡◌, ◌↔◌, ◌<◌, ◌≤◌, ◌+◌, ◌^◌, length, slice_index, option_to_list, ◌++◌, ◌∷◌, []};
 ghost use Rattle.std.specs.Prelude.{IfSome, IsTrue, None, Some, false, if◌then◌else◌};
-ghost use Rattle.uz_machine.specs.declared.HeldStore.TheVariants.{Bit};
-ghost use Rattle.uz_machine.specs.declared.EdgeKind.TheVariants.{Leave};
-ghost use Rattle.uz_machine.specs.Space.{with_plain_byte, with_port_a, plain_byte, space_after, after_store};
-ghost use Rattle.uz_machine.specs.Space.{after_byte, is_store, is_pin, takes_one_bit, space_taken};
-ghost use Rattle.uz_machine.specs.Turn.{edge_kinds, address_of, after_stores, all_edge_kinds, edges_at};
+ghost use Rattle.uz_core.specs.declared.machine.HeldStore.TheVariants.{Bit};
+ghost use Rattle.uz_core.specs.declared.machine.EdgeKind.TheVariants.{Leave};
+ghost use Rattle.uz_core.specs.Space.{with_plain_byte, with_port_a, plain_byte, space_after, after_store};
+ghost use Rattle.uz_core.specs.Space.{after_byte, is_store, is_pin, takes_one_bit, space_taken};
+ghost use Rattle.uz_core.specs.Turn.{edge_kinds, address_of, after_stores, all_edge_kinds, edges_at};
 ghost use Rattle.uz_pads.specs.Pads.{pads_wiring};
 ghost use Rattle.uz_ports.specs.Boards.{space_of, held_of, entered_of, clock_of, entry_edge};
 ghost use Rattle.uz_ports.specs.HeldStoreFits.{HeldStoreFits};
 
 use crate::Board;
 use arrayvec::ArrayVec;
-use uz_core::with_bit;
-use uz_machine::address::{OCR2A, PINA, PINB, PINC, PIND, PORTA, PORTB, PORTC, RAM_END, TIFR1};
-use uz_machine::{Edge, EdgeKind, HeldStore};
+use uz_core::address::{OCR2A, PINA, PINB, PINC, PIND, PORTA, PORTB, PORTC, RAM_END, TIFR1};
+use uz_core::{Edge, EdgeKind, HeldStore, with_bit};
 use uz_timer::Timer1;
 
 impl Board {

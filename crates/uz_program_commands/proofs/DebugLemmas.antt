@@ -5,10 +5,10 @@ use Rattle.uz_shelf.specs.Faults.{Rose}
 use Rattle.uz_shelf.specs.Files.{FileMap}
 use Rattle.uz_hex.specs.Reading.{Flash}
 use Rattle.uz_schedule.specs.declared.kinds.Response.{Response}
-use Rattle.uz_text.specs.Lines.{lines_of}
+use Rattle.uz_hex.specs.Lines.{lines_of}
 use Rattle.uz_pads.specs.declared.pads.Pad.{Pad}
-use Rattle.uz_machine.specs.PadLine.{PadHistory}
-use Rattle.uz_machine.specs.Turn.{State}
+use Rattle.uz_core.specs.PadLine.{PadHistory}
+use Rattle.uz_core.specs.Turn.{State}
 use Rattle.uz_debug.specs.Debuggers.{Debugs, session_of}
 use Rattle.uz_debug.specs.SessionText.{Prints}
 use Rattle.uz_debug.specs.Sessions.{session_at_reset}
@@ -24,7 +24,7 @@ use Rattle.uz_files.specs.Endings.{EndsBy}
 use Rattle.uz_files.specs.Reading.{Fails, IsReader, Says, text_limit}
 use Rattle.uz_debug.specs.WhyNames.{script_why_name}
 use Rattle.uz_program_commands.specs.ScriptFile.{HasScriptFault, RefusesScript, SpellsScript}
-use Rattle.uz_outcomes.specs.RunFiles.{RunPreface, start_of}
+use Rattle.uz_files.specs.RunFiles.{RunPreface, start_of}
 use Rattle.uz_program_commands.specs.DebugCommand.{DebugAnswers, DebugAnswersFor, DebugAnswersWith, DebugLacks, DebugSucceeds, IsDebugged}
 use Rattle.uz_program_commands.specs.DebugCommand.{IsDebuggedOf, StartsDebug}
 use Rattle.uz_files.proofs.FaultLemmas.{rose_later}

@@ -3,8 +3,8 @@ use Rattle.std.proofs.Common.{◌≡◌, ◌≢◌, ◌⊎◌, inl, inr, ℕ, Li
 use Rattle.std.specs.Prelude.{Option, Some, Result, Ok, Err, IfErr, IfOk}
 use Rattle.uz_shelf.specs.Files.{FileMap, HoldsFile}
 use Rattle.uz_schedule.specs.declared.kinds.Response.{Response}
-use Rattle.uz_machine.specs.PadLine.{PadHistory}
-use Rattle.uz_machine.specs.Turn.{State}
+use Rattle.uz_core.specs.PadLine.{PadHistory}
+use Rattle.uz_core.specs.Turn.{State}
 use Rattle.uz_console.specs.declared.console.Console.{Console}
 use Rattle.uz_proposal.specs.declared.no_hints.NoHints.{NoHints}
 use Rattle.uz_proposal.specs.declared.no_hints.NoHints.TheVariants as none
@@ -24,8 +24,8 @@ use Rattle.uz_files.proofs.OutcomeLemmas.{came_from}
 use Rattle.uz_files.proofs.ReadingLemmas.{ends_by}
 use Rattle.uz_files.proofs.ReadsLemmas.{fails_status}
 use Rattle.uz_files.proofs.WriteLemmas.{holds_written}
-use Rattle.uz_outcomes.specs.RunFiles.{RunLacks, RunPreface, StartsRun}
-use Rattle.uz_outcomes.proofs.RunFileLemmas.{preface_answers, run_answers, run_or_fault, run_same, run_status}
+use Rattle.uz_files.specs.RunFiles.{RunLacks, RunPreface, StartsRun}
+use Rattle.uz_files.proofs.RunFileLemmas.{preface_answers, run_answers, run_or_fault, run_same, run_status}
 use Rattle.uz_program_commands.specs.declared.hints_command.Proposed.{Proposed}
 use Rattle.uz_program_commands.specs.declared.hints_command.Proposed.TheVariants.{Made, Refusal}
 use Rattle.uz_program_commands.specs.HintsCommand.{BadSource, FilesHinted, Hints, HintsAnswers, HintsAnswersBy, IsProposal, IsProposed}

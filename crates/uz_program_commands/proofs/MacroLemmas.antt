@@ -6,7 +6,7 @@ use Rattle.avr_asm.specs.Assembly.{Output}
 use Rattle.avr_asm.specs.FirstFault.{IsFirstFault}
 use Rattle.avr_asm.specs.Relation.{IsAssembly}
 use Rattle.avr_asm.specs.declared.errors.AsmError.{AsmError}
-use Rattle.avr_operands.specs.declared.errors.AsmWhy.TheVariants as asm_why
+use Rattle.avr_text.specs.declared.errors.AsmWhy.TheVariants as asm_why
 use Rattle.avr_macro.specs.declared.errors.MacroError.{MacroError}
 use Rattle.avr_macro.specs.declared.errors.MacroWhy.{MacroWhy}
 use Rattle.avr_macro.specs.declared.errors.MacroWhy.TheVariants as why
@@ -26,7 +26,7 @@ use Rattle.uz_program_commands.specs.MacroSource.{bad_at, refusal_answer}
 use Rattle.uz_program_commands.specs.MacroCommands.{BuildAnswers, BuildSucceeds, ExpandAnswers, ExpandSucceeds, FilesBuilt, IsBuilt}
 use Rattle.uz_program_commands.specs.MacroCommands.{IsExpanded, IsUnbuilt, expanded_line, origin_of}
 use Rattle.uz_program_commands.specs.MacroValues.{IsImageWork, IsMacroWork, TellsAt}
-use Rattle.avr_operands.specs.WhyNames.{asm_why_name}
+use Rattle.avr_text.specs.WhyNames.{asm_why_name}
 use Rattle.uz_files.specs.Formats.{Readings}
 use Rattle.uz_files.specs.Reading.{Fault}
 use Rattle.uz_files.proofs.WriteLemmas.{holds_written}

@@ -6,8 +6,8 @@ use Rattle.uz_shelf.specs.Text.{TakesAll, TakesPrefix}
 use Rattle.uz_schedule.specs.declared.kinds.Response.{Response}
 use Rattle.uz_console.specs.declared.console.Console.{Console}
 use Rattle.uz_console.specs.Runs.{RunsTo}
-use Rattle.uz_machine.specs.PadLine.{PadHistory}
-use Rattle.uz_machine.specs.Turn.{State}
+use Rattle.uz_core.specs.PadLine.{PadHistory}
+use Rattle.uz_core.specs.Turn.{State}
 use Rattle.uz_files.specs.declared.ending.Failure.{Failure}
 use Rattle.uz_program_commands.specs.declared.trace_command.RunEnd.{RunEnd}
 use Rattle.uz_program_commands.specs.declared.trace_command.RunEnd.TheVariants as end
@@ -17,9 +17,9 @@ use Rattle.uz_files.specs.Answers.{Answer, ComesOf, MayCome, ended, outside}
 use Rattle.uz_files.specs.Endings.{ComesOfFailure, EndsBy}
 use Rattle.uz_program_commands.specs.TraceCommand.{IsTrace, TraceAnswers, TraceParts, edge_lines, end_line}
 use Rattle.uz_program_commands.specs.TraceValues.{IsPrinted, IsPrintedPart, end_status, last_line}
-use Rattle.uz_outcomes.specs.RunFiles.{RunLacks, RunPreface, RunSucceeds, StartsRun, start_of}
-use Rattle.uz_outcomes.specs.StopLines.{stopped_line}
-use Rattle.uz_outcomes.proofs.RunFileLemmas.{preface_answers, run_status}
+use Rattle.uz_files.specs.RunFiles.{RunLacks, RunPreface, RunSucceeds, StartsRun, start_of}
+use Rattle.uz_files.specs.StopLines.{stopped_line}
+use Rattle.uz_files.proofs.RunFileLemmas.{preface_answers, run_status}
 use Rattle.uz_files.proofs.ReadingLemmas.{ends_by}
 use Rattle.uz_files.proofs.PrintedLemmas.{cut_part}
 use Rattle.uz_files.proofs.EndingLemmas.{comes_by, run_outcome}

@@ -3,15 +3,15 @@ use Rattle.std.proofs.Common.{◌≡◌, ◌⊎◌, inl, inr, ℕ, List, sym, ap
 use Rattle.std.specs.Prelude.{Option, Some}
 use Rattle.uz_shelf.specs.Files.{FileMap}
 use Rattle.uz_schedule.specs.declared.kinds.Response.{Response}
-use Rattle.uz_machine.specs.PadLine.{PadHistory}
-use Rattle.uz_machine.specs.Turn.{State}
+use Rattle.uz_core.specs.PadLine.{PadHistory}
+use Rattle.uz_core.specs.Turn.{State}
 use Rattle.uz_console.proofs.RunLaws.{one_run, one_stopped_run, over_or_stopped}
 use Rattle.uz_console.specs.Turns.{Halts}
 use Rattle.uz_files.specs.declared.status.Status.TheVariants.{Done, Stopped}
 use Rattle.uz_files.specs.Answers.{Answer, ended}
 use Rattle.uz_files.specs.Formats.{Readings}
-use Rattle.uz_outcomes.specs.StopLines.{stopped_line}
-use Rattle.uz_outcomes.proofs.RunFileLemmas.{run_or_fault, run_same, same_why}
+use Rattle.uz_files.specs.StopLines.{stopped_line}
+use Rattle.uz_files.proofs.RunFileLemmas.{run_or_fault, run_same, same_why}
 use Rattle.uz_program_commands.specs.TraceCommand.{IsTrace, TraceAnswers, edge_lines, end_line}
 
 one_trace : (clocks : ℕ) (a b : Answer) (start : State PadHistory) → IsTrace clocks start a → IsTrace clocks start b → a ≡ b

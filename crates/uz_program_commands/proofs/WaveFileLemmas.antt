@@ -2,7 +2,7 @@
 use Rattle.std.proofs.Common.{◌≡◌, ℕ, List, ◌++◌, length, ap, ◌∙◌, subst}
 use Rattle.std.specs.Prelude.{Option, Some, Result, Ok, Err, OnOk, OnErr}
 use Rattle.uz_shelf.specs.Files.{AppendsAll, AppendsPrefix, FileMap, WritesFile}
-use Rattle.uz_machine.specs.declared.Edge.{Edge}
+use Rattle.uz_core.specs.declared.machine.Edge.{Edge}
 use Rattle.uz_report.specs.declared.sound_file.Wave.{Wave}
 use Rattle.uz_report.specs.Waves.{Holds, header_bytes, pad_after, samples, wave_bytes}
 use Rattle.uz_files.specs.Writing.{WritesSome}

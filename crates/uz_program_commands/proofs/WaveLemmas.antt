@@ -4,9 +4,9 @@ use Rattle.std.specs.Prelude.{Option, Some, Result, Ok, Err, IfErr, IfOk}
 use Rattle.uz_shelf.specs.Files.{FileMap, HoldsFile}
 use Rattle.uz_schedule.specs.declared.kinds.Response.{Response}
 use Rattle.uz_core.specs.declared.step.Why.{Why}
-use Rattle.uz_machine.specs.declared.Edge.{Edge}
-use Rattle.uz_machine.specs.PadLine.{PadHistory}
-use Rattle.uz_machine.specs.Turn.{State}
+use Rattle.uz_core.specs.declared.machine.Edge.{Edge}
+use Rattle.uz_core.specs.PadLine.{PadHistory}
+use Rattle.uz_core.specs.Turn.{State}
 use Rattle.uz_console.proofs.RunLaws.{one_run, one_stopped_run, over_or_stopped}
 use Rattle.uz_console.specs.declared.console.Console.{Console}
 use Rattle.uz_console.specs.Runs.{RunsTo}
@@ -29,9 +29,9 @@ use Rattle.uz_files.proofs.OutcomeLemmas.{came_from}
 use Rattle.uz_files.proofs.ReadingLemmas.{ends_by}
 use Rattle.uz_files.proofs.ReadsLemmas.{fails_status}
 use Rattle.uz_files.proofs.WriteLemmas.{holds_written}
-use Rattle.uz_outcomes.specs.RunFiles.{RunLacks, RunPreface, RunSucceeds, StartsRun, start_of}
-use Rattle.uz_outcomes.specs.StopLines.{stopped_line}
-use Rattle.uz_outcomes.proofs.RunFileLemmas.{preface_answers, run_answers, run_or_fault, run_same, run_status, same_why}
+use Rattle.uz_files.specs.RunFiles.{RunLacks, RunPreface, RunSucceeds, StartsRun, start_of}
+use Rattle.uz_files.specs.StopLines.{stopped_line}
+use Rattle.uz_files.proofs.RunFileLemmas.{preface_answers, run_answers, run_or_fault, run_same, run_status, same_why}
 use Rattle.uz_program_commands.specs.declared.listening.Heard.{Heard}
 use Rattle.uz_program_commands.specs.declared.listening.Heard.TheVariants.{Over, Stopped as StoppedAt}
 use Rattle.uz_program_commands.specs.declared.wave_command.Task.{Task}

@@ -5,8 +5,8 @@ use Rattle.uz_shelf.specs.Files.{FileMap, LacksFile}
 use Rattle.uz_hex.specs.Reading.{Flash}
 use Rattle.uz_schedule.specs.declared.kinds.Response.{Response}
 use Rattle.uz_pads.specs.declared.pads.Pad.{Pad}
-use Rattle.uz_machine.specs.PadLine.{PadHistory}
-use Rattle.uz_machine.specs.Turn.{State}
+use Rattle.uz_core.specs.PadLine.{PadHistory}
+use Rattle.uz_core.specs.Turn.{State}
 use Rattle.uz_debug.specs.declared.command.Command.{Command}
 use Rattle.uz_debug.specs.declared.debugger.Debugger.{Debugger}
 use Rattle.uz_debug.specs.Debuggers.{Debugs}
@@ -16,7 +16,7 @@ use Rattle.uz_files.specs.declared.status.Status.TheVariants.{Done}
 use Rattle.uz_files.specs.Answers.{Answer, one_line}
 use Rattle.uz_files.specs.Reading.{Reads, Says, text_limit}
 use Rattle.uz_program_commands.specs.ScriptFile.{RefusesScript, SpellsScript}
-use Rattle.uz_outcomes.specs.RunFiles.{start_of}
+use Rattle.uz_files.specs.RunFiles.{start_of}
 use Rattle.uz_hex.specs.HexText.{IsHexOf}
 use Rattle.uz_files.specs.Formats.{RefusesHex, RefusesPads, SpellsPads}
 

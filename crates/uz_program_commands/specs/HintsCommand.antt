@@ -8,8 +8,8 @@ use Rattle.uz_hex.specs.HexText.{IsHexOf}
 use Rattle.uz_hex.specs.Reading.{Flash}
 use Rattle.uz_schedule.specs.declared.kinds.Response.{Response}
 use Rattle.uz_pads.specs.declared.pads.Pad.{Pad}
-use Rattle.uz_machine.specs.PadLine.{PadHistory}
-use Rattle.uz_machine.specs.Turn.{State}
+use Rattle.uz_core.specs.PadLine.{PadHistory}
+use Rattle.uz_core.specs.Turn.{State}
 use Rattle.avr_asm.specs.declared.output.Hint.{Hint}
 use Rattle.avr_asm.specs.declared.output.Hint.TheVariants as hint
 use Rattle.uz_proposal.specs.Sources.{PutsOutNothing}
@@ -23,8 +23,8 @@ use Rattle.uz_files.specs.Answers.{Answer, Write, one_line}
 use Rattle.uz_files.specs.Formats.{SpellsPads}
 use Rattle.uz_files.specs.Reading.{Says, text_limit}
 use Rattle.uz_files.specs.Writing.{written_then}
-use Rattle.uz_outcomes.specs.RunFiles.{RunAnswers}
-use Rattle.uz_outcomes.specs.StopLines.{stopped_line}
+use Rattle.uz_files.specs.RunFiles.{RunAnswers}
+use Rattle.uz_files.specs.StopLines.{stopped_line}
 
 -- The line's numbers
 

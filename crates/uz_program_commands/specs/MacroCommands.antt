@@ -6,14 +6,14 @@ use Rattle.uz_hex.specs.HexText.{IsHexOf}
 use Rattle.avr_asm.specs.Assembly.{Output}
 use Rattle.avr_asm.specs.FirstFault.{IsFirstFault}
 use Rattle.avr_asm.specs.Relation.{IsAssembly}
-use Rattle.avr_operands.specs.declared.errors.AsmWhy.{AsmWhy}
+use Rattle.avr_text.specs.declared.errors.AsmWhy.{AsmWhy}
 use Rattle.avr_macro.specs.declared.origin.Origin.{Origin}
 use Rattle.avr_macro.specs.Expansion.{Expands, FlatText, first_place}
 use Rattle.uz_files.specs.Answers.{Answer}
 use Rattle.uz_program_commands.specs.AsmCommand.{assembled_line}
 use Rattle.uz_files.specs.Writing.{hex_file, written_then}
 use Rattle.uz_program_commands.specs.MacroSource.{ReadsFlat, bad_at, flat_of}
-use Rattle.avr_operands.specs.WhyNames.{asm_why_name}
+use Rattle.avr_text.specs.WhyNames.{asm_why_name}
 
 abbrev pub expanded_line : List Origin → List ℕ
 expanded_line origins = codes "expanded lines " ++ decimal (length origins) ++ codes "\n"

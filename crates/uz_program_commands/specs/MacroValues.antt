@@ -5,7 +5,7 @@ use Rattle.uz_hex.specs.HexText.{IsHexOf}
 use Rattle.avr_asm.specs.Assembly.{Output}
 use Rattle.avr_asm.specs.Relation.{IsAssembly}
 use Rattle.avr_asm.specs.declared.errors.AsmError.{AsmError}
-use Rattle.avr_operands.specs.declared.errors.AsmWhy.TheVariants.{Memory}
+use Rattle.avr_text.specs.declared.errors.AsmWhy.TheVariants.{Memory}
 use Rattle.avr_macro.specs.declared.origin.Origin.{Origin}
 use Rattle.avr_macro.specs.Expansion.{Expands, FlatText}
 use Rattle.uz_files.specs.declared.work.Work.{Work}
@@ -13,7 +13,7 @@ use Rattle.uz_files.specs.Answers.{Answer}
 use Rattle.uz_files.specs.Writing.{answer_of_work}
 use Rattle.uz_program_commands.specs.MacroCommands.{origin_of}
 use Rattle.uz_program_commands.specs.MacroSource.{bad_at, flat_of}
-use Rattle.avr_operands.specs.WhyNames.{asm_why_name}
+use Rattle.avr_text.specs.WhyNames.{asm_why_name}
 
 -- what is to be written and printed of an expanded source
 pub record IsMacroWork (files : Option FileMap) (source name : List ℕ) (next : List (List ℕ) → FlatText → Answer → Type 0)

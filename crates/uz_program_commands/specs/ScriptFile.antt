@@ -1,6 +1,6 @@
 -- What a script says: commands of the debugger, or its first faulty line and why.
 use Rattle.std.specs.Prelude.{ℕ, List}
-use Rattle.uz_text.specs.Lines.{lines_of}
+use Rattle.uz_hex.specs.Lines.{lines_of}
 use Rattle.uz_debug.specs.Scripts.{IsFirstFault, IsScript}
 use Rattle.uz_debug.specs.declared.command.Command.{Command}
 use Rattle.uz_debug.specs.declared.errors.ScriptWhy.{ScriptWhy}

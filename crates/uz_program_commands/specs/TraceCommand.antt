@@ -6,20 +6,20 @@ use Rattle.uz_hex.specs.Reading.{Flash}
 use Rattle.uz_schedule.specs.declared.kinds.Response.{Response}
 use Rattle.uz_pads.specs.declared.pads.Pad.{Pad}
 use Rattle.uz_core.specs.declared.step.Why.{Why}
-use Rattle.uz_machine.specs.declared.Edge.{Edge}
-use Rattle.uz_machine.specs.declared.EdgeKind.{EdgeKind}
-use Rattle.uz_machine.specs.declared.EdgeKind.TheVariants.{Sync, Pixel, Sound, Enter, Leave}
-use Rattle.uz_machine.specs.PadLine.{PadHistory}
-use Rattle.uz_machine.specs.Turn.{State}
-use Rattle.uz_machine.specs.Run.{IsClockRun, IsRunPart, IsStoppedRun}
+use Rattle.uz_core.specs.declared.machine.Edge.{Edge}
+use Rattle.uz_core.specs.declared.machine.EdgeKind.{EdgeKind}
+use Rattle.uz_core.specs.declared.machine.EdgeKind.TheVariants.{Sync, Pixel, Sound, Enter, Leave}
+use Rattle.uz_core.specs.PadLine.{PadHistory}
+use Rattle.uz_core.specs.Turn.{State}
+use Rattle.uz_core.specs.Run.{IsClockRun, IsRunPart, IsStoppedRun}
 use Rattle.uz_console.specs.Turns.{Halts}
 use Rattle.uz_files.specs.declared.status.Status.TheVariants.{Done, Stopped, Unwritten}
 use Rattle.uz_files.specs.Answers.{Answer, ended}
 use Rattle.uz_files.specs.Reading.{Says, text_limit}
 use Rattle.uz_hex.specs.HexText.{IsHexOf}
 use Rattle.uz_files.specs.Formats.{SpellsPads}
-use Rattle.uz_outcomes.specs.RunFiles.{RunAnswers, start_of}
-use Rattle.uz_outcomes.specs.StopLines.{stopped_line}
+use Rattle.uz_files.specs.RunFiles.{RunAnswers, start_of}
+use Rattle.uz_files.specs.StopLines.{stopped_line}
 
 abbrev pub kind_text : EdgeKind → List ℕ
 kind_text (Sync level) = codes "sync " ++ decimal level

@@ -1,10 +1,10 @@
 -- The values of the code that make a trace.
 use Rattle.std.specs.Prelude.{◌≡◌, ℕ, List, Option}
 use Rattle.uz_shelf.specs.Text.{TakesAll, TakesPrefix}
-use Rattle.uz_machine.specs.declared.Edge.{Edge}
-use Rattle.uz_machine.specs.PadLine.{PadHistory}
-use Rattle.uz_machine.specs.Turn.{State}
-use Rattle.uz_machine.specs.Run.{IsClockRun, IsRunPart, IsStoppedRun}
+use Rattle.uz_core.specs.declared.machine.Edge.{Edge}
+use Rattle.uz_core.specs.PadLine.{PadHistory}
+use Rattle.uz_core.specs.Turn.{State}
+use Rattle.uz_core.specs.Run.{IsClockRun, IsRunPart, IsStoppedRun}
 use Rattle.uz_console.specs.declared.console.Console.{Console}
 use Rattle.uz_console.specs.Runs.{RunsTo}
 use Rattle.uz_console.specs.Turns.{Halts}
@@ -14,7 +14,7 @@ use Rattle.uz_files.specs.declared.status.Status.{Status}
 use Rattle.uz_files.specs.declared.status.Status.TheVariants as status
 use Rattle.uz_files.specs.declared.status.Status.TheVariants.{Done}
 use Rattle.uz_program_commands.specs.TraceCommand.{edge_lines, end_line}
-use Rattle.uz_outcomes.specs.StopLines.{stopped_line}
+use Rattle.uz_files.specs.StopLines.{stopped_line}
 
 -- the lines of the whole run from this state are printed
 abbrev pub IsPrinted : ℕ → State PadHistory → RunEnd → Option (List ℕ) → Option (List ℕ) → Type 0

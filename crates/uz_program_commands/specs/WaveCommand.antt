@@ -8,10 +8,10 @@ use Rattle.uz_hex.specs.HexText.{IsHexOf}
 use Rattle.uz_schedule.specs.declared.kinds.Response.{Response}
 use Rattle.uz_pads.specs.declared.pads.Pad.{Pad}
 use Rattle.uz_core.specs.declared.step.Why.{Why}
-use Rattle.uz_machine.specs.declared.Edge.{Edge}
-use Rattle.uz_machine.specs.PadLine.{PadHistory}
-use Rattle.uz_machine.specs.Turn.{State}
-use Rattle.uz_machine.specs.Run.{IsClockRun, IsStoppedRun}
+use Rattle.uz_core.specs.declared.machine.Edge.{Edge}
+use Rattle.uz_core.specs.PadLine.{PadHistory}
+use Rattle.uz_core.specs.Turn.{State}
+use Rattle.uz_core.specs.Run.{IsClockRun, IsStoppedRun}
 use Rattle.uz_console.specs.Turns.{Halts}
 use Rattle.uz_report.specs.Waves.{samples_of, wave_of}
 use Rattle.uz_files.specs.declared.status.Status.TheVariants.{Stopped}
@@ -19,8 +19,8 @@ use Rattle.uz_files.specs.Answers.{Answer, Write, one_line}
 use Rattle.uz_files.specs.Writing.{written_then}
 use Rattle.uz_files.specs.Reading.{Says, text_limit}
 use Rattle.uz_files.specs.Formats.{SpellsPads}
-use Rattle.uz_outcomes.specs.RunFiles.{RunAnswers, start_of}
-use Rattle.uz_outcomes.specs.StopLines.{stopped_line}
+use Rattle.uz_files.specs.RunFiles.{RunAnswers, start_of}
+use Rattle.uz_files.specs.StopLines.{stopped_line}
 
 -- how many samples there are
 abbrev pub count_line : List ℕ → List ℕ

@@ -5,10 +5,10 @@ use Rattle.uz_hex.specs.Reading.{Flash}
 use Rattle.uz_hex.specs.HexText.{IsHexOf}
 use Rattle.uz_schedule.specs.declared.kinds.Response.{Response}
 use Rattle.uz_pads.specs.declared.pads.Pad.{Pad}
-use Rattle.uz_machine.specs.declared.Edge.{Edge}
-use Rattle.uz_machine.specs.PadLine.{PadHistory}
-use Rattle.uz_machine.specs.Turn.{State}
-use Rattle.uz_machine.specs.Run.{IsClockRun, IsStoppedRun}
+use Rattle.uz_core.specs.declared.machine.Edge.{Edge}
+use Rattle.uz_core.specs.PadLine.{PadHistory}
+use Rattle.uz_core.specs.Turn.{State}
+use Rattle.uz_core.specs.Run.{IsClockRun, IsStoppedRun}
 use Rattle.uz_console.specs.declared.console.Console.{Console}
 use Rattle.uz_console.specs.Runs.{RunsTo}
 use Rattle.uz_console.specs.Turns.{Halts}
@@ -18,7 +18,7 @@ use Rattle.uz_scan.specs.Pictures.{newest_first}
 use Rattle.uz_files.specs.Endings.{answer_of}
 use Rattle.uz_files.specs.Reading.{Says, text_limit}
 use Rattle.uz_files.specs.Formats.{SpellsPads}
-use Rattle.uz_outcomes.specs.RunFiles.{start_of}
+use Rattle.uz_files.specs.RunFiles.{start_of}
 use Rattle.uz_program_commands.specs.declared.listening.Heard.{Heard}
 use Rattle.uz_program_commands.specs.declared.listening.Heard.TheVariants.{Over, Stopped}
 use Rattle.uz_program_commands.specs.declared.wave_command.Task.{Task}

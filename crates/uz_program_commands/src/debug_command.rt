@@ -7,7 +7,7 @@ ghost use Rattle.uz_shelf.specs.Files.{FileMap};
 ghost use Rattle.uz_files.specs.Answers.{NoPart, MayCome, outside};
 ghost use Rattle.uz_program_commands.specs.DebugCommand.{DebugAnswers, StartsDebug};
 ghost use Rattle.uz_files.specs.Endings.{EndsBy, Gives};
-ghost use Rattle.uz_outcomes.specs.RunFiles.{RunPreface};
+ghost use Rattle.uz_files.specs.RunFiles.{RunPreface};
 
 use crate::script_file::Script;
 use std::alloc::Global;

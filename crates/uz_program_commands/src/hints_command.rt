@@ -4,7 +4,7 @@ ghost use Rattle.std.specs.Prelude.{◌≡◌, ◌≤◌, ◌≢◌, ◌⊎◌, 
 ghost use Rattle.uz_shelf.specs.Faults.{Rose};
 ghost use Rattle.uz_files.specs.Answers.{MayCome, NoPart, outside};
 ghost use Rattle.uz_files.specs.Endings.{EndsBy};
-ghost use Rattle.uz_outcomes.specs.RunFiles.{RunPreface};
+ghost use Rattle.uz_files.specs.RunFiles.{RunPreface};
 ghost use Rattle.uz_proposal.specs.declared.no_hints.NoHints.TheVariants as none;
 ghost use Rattle.uz_program_commands.specs.HintsCommand.{FilesHinted, HintsAnswers};
 ghost use Rattle.uz_program_commands.specs.HintsValues.{IsTold, IsToldOf};
@@ -12,8 +12,7 @@ ghost use Rattle.uz_program_commands.specs.HintsValues.{IsTold, IsToldOf};
 use crate::hints_lines::{hints_line, no_hints, why_none};
 use std::alloc::{AllocError, Global};
 use uz_console::Console;
-use uz_files::{Ending, Failure, Status, Work, end_with, finish_work, give_up};
-use uz_outcomes::reset_console;
+use uz_files::{Ending, Failure, Status, Work, end_with, finish_work, give_up, reset_console};
 use uz_proposal::{NoHints, Remarked, checked_source, propose};
 use uz_schedule::Response;
 use uz_shelf::{Shelf, Sink};

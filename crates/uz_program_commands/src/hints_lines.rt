@@ -6,8 +6,7 @@ ghost use Rattle.uz_program_commands.specs.HintsCommand.{is_cell, is_fact, no_hi
 
 use avr_asm::Hint;
 use std::alloc::{AllocError, Global};
-use uz_files::put_number;
-use uz_outcomes::stopped;
+use uz_files::{put_number, stopped};
 use uz_proposal::{NoHints, Remarked, frame_text};
 
 /// The lines of the frame that some hints name: those of the first that does, 0 where none does.

@@ -1,9 +1,9 @@
 //! A run that is listened to: a sample is kept of each line, and nothing else of its edges.
 
 ghost use Rattle.std.specs.Prelude.{◌≡◌, ◌≤◌, ◌^◌, ◌++◌, [], IfOk, List, OnOk, ℕ};
-ghost use Rattle.uz_machine.specs.declared.Edge.{Edge as EdgeValue};
-ghost use Rattle.uz_machine.specs.PadLine.{PadHistory};
-ghost use Rattle.uz_machine.specs.Turn.{State};
+ghost use Rattle.uz_core.specs.declared.machine.Edge.{Edge as EdgeValue};
+ghost use Rattle.uz_core.specs.PadLine.{PadHistory};
+ghost use Rattle.uz_core.specs.Turn.{State};
 ghost use Rattle.uz_console.specs.Consoles.{StandsFor};
 ghost use Rattle.uz_console.specs.Runs.{AreTimed, RunsTo};
 ghost use Rattle.uz_report.specs.Waves.{Holds, clock_of};
@@ -13,8 +13,7 @@ ghost use Rattle.uz_program_commands.specs.WaveValues.{IsHeard};
 use arrayvec::ArrayVec;
 use std::alloc::Global;
 use uz_console::{Console, Paged};
-use uz_core::Why;
-use uz_machine::Edge;
+use uz_core::{Edge, Why};
 use uz_report::{Wave, WaveError};
 
 /// How a run of so many clocks ended.

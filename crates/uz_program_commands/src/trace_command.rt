@@ -4,8 +4,8 @@ ghost use Rattle.std.specs.Prelude.{◌≡◌, ◌≤◌, ◌^◌, [], length, I
 ghost use Rattle.uz_shelf.specs.Faults.{Rose};
 ghost use Rattle.uz_shelf.specs.Text.{TakesAll, TakesPrefix};
 ghost use Rattle.uz_console.specs.Runs.{RunsTo};
-ghost use Rattle.uz_machine.specs.PadLine.{PadHistory};
-ghost use Rattle.uz_machine.specs.Turn.{State};
+ghost use Rattle.uz_core.specs.PadLine.{PadHistory};
+ghost use Rattle.uz_core.specs.Turn.{State};
 ghost use Rattle.uz_program_commands.specs.TraceCommand.{edge_lines};
 ghost use Rattle.uz_program_commands.specs.TraceValues.{IsPrinted, IsPrintedPart, end_status, last_line};
 
@@ -13,10 +13,8 @@ use crate::trace_lines::{PAGE_BYTES, end, write_lines};
 use arrayvec::ArrayVec;
 use std::alloc::{AllocError, Global};
 use uz_console::{Console, Paged};
-use uz_core::Why;
-use uz_files::{Ending, Status};
-use uz_machine::Edge;
-use uz_outcomes::stopped;
+use uz_core::{Edge, Why};
+use uz_files::{Ending, Status, stopped};
 use uz_shelf::{Sink, WriteError};
 
 /// How a run of so many clocks ended.

@@ -5,8 +5,8 @@ ghost use Rattle.uz_program_commands.specs.TraceCommand.{edge_line, edge_lines, 
 
 use itoa::write_digits;
 use std::alloc::{AllocError, Global};
+use uz_core::{Edge, EdgeKind};
 use uz_files::number_line;
-use uz_machine::{Edge, EdgeKind};
 
 /// The lines of a page's 64 edges have so many bytes at most: a line has a clock of 20 digits, a name of 7 letters and spaces, a number
 /// of 5 digits, and its end.

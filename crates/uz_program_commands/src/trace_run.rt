@@ -7,15 +7,14 @@ ghost use Rattle.uz_shelf.specs.Text.{TakesAll};
 ghost use Rattle.uz_files.specs.Answers.{ComesOf, MayCome, ended, outside};
 ghost use Rattle.uz_program_commands.specs.TraceCommand.{TraceAnswers, TraceParts};
 ghost use Rattle.uz_program_commands.specs.TraceValues.{end_status, last_line};
-ghost use Rattle.uz_outcomes.specs.RunFiles.{StartsRun};
+ghost use Rattle.uz_files.specs.RunFiles.{StartsRun};
 ghost use Rattle.uz_schedule.specs.declared.kinds.Response.{Response};
 
 use crate::trace_command::{RunEnd, ending_of, print_run};
 use std::alloc::{AllocError, Global};
 use uz_cert::Response;
 use uz_console::Console;
-use uz_files::{Status, end_with, give_up};
-use uz_outcomes::reset_console;
+use uz_files::{Status, end_with, give_up, reset_console};
 use uz_shelf::{Shelf, Sink, WriteError};
 
 /// Prints the line that ends a trace.

@@ -1,9 +1,9 @@
 //! `wave HEX PADS IRQ CLOCKS WAV`.
 
 ghost use Rattle.std.specs.Prelude.{◌≡◌, ◌≤◌, ◌⊎◌, [], IfErr, IfOk, List, ℕ};
-ghost use Rattle.uz_machine.specs.declared.Edge.{Edge};
-ghost use Rattle.uz_machine.specs.PadLine.{PadHistory};
-ghost use Rattle.uz_machine.specs.Turn.{State};
+ghost use Rattle.uz_core.specs.declared.machine.Edge.{Edge};
+ghost use Rattle.uz_core.specs.PadLine.{PadHistory};
+ghost use Rattle.uz_core.specs.Turn.{State};
 ghost use Rattle.uz_console.specs.Consoles.{StandsFor};
 ghost use Rattle.uz_console.specs.Runs.{RunsTo};
 ghost use Rattle.uz_shelf.specs.Faults.{Rose};
@@ -12,7 +12,7 @@ ghost use Rattle.uz_files.specs.Endings.{EndsBy};
 ghost use Rattle.uz_files.specs.Writing.{written_then};
 ghost use Rattle.uz_report.specs.Waves.{Holds};
 ghost use Rattle.uz_scan.specs.Pictures.{newest_first};
-ghost use Rattle.uz_outcomes.specs.RunFiles.{RunPreface};
+ghost use Rattle.uz_files.specs.RunFiles.{RunPreface};
 ghost use Rattle.uz_program_commands.specs.WaveCommand.{FilesHeard, WaveAnswers, wave_file};
 ghost use Rattle.uz_program_commands.specs.WaveValues.{IsHeard, IsTask, IsTaskOf};
 
@@ -20,8 +20,7 @@ use crate::listening::{Heard, listen};
 use crate::wave_file::{samples, write_wave};
 use std::alloc::{AllocError, Global};
 use uz_console::Console;
-use uz_files::{Ending, Failure, Status, end_with, give_up};
-use uz_outcomes::{reset_console, stopped};
+use uz_files::{Ending, Failure, Status, end_with, give_up, reset_console, stopped};
 use uz_report::Wave;
 use uz_schedule::Response;
 use uz_shelf::{Shelf, Sink, WriteError};

@@ -1,7 +1,7 @@
 //! The file of a run's sound.
 
 ghost use Rattle.std.specs.Prelude.{◌≡◌, ◌≤◌, IfOk, IsErrOf, List, OnErr, OnOk};
-ghost use Rattle.uz_machine.specs.declared.Edge.{Edge};
+ghost use Rattle.uz_core.specs.declared.machine.Edge.{Edge};
 ghost use Rattle.uz_shelf.specs.Faults.{Rose};
 ghost use Rattle.uz_shelf.specs.Files.{WritesFile};
 ghost use Rattle.uz_files.specs.Writing.{WritesSome};

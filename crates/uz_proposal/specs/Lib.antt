@@ -1,3 +1,13 @@
 pub mod NoFrames
 pub mod Sources
 pub mod Text
+pub mod Depths
+pub mod Extents
+pub mod Lines
+pub mod Matches
+pub mod Moments
+pub mod Periods
+pub mod Reaching
+pub mod Stores
+pub mod Visits
+pub mod Windows

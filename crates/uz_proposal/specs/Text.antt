@@ -1,6 +1,6 @@
 -- Hints as lines of the assembler, each behind a comment. Numbers are decimal; addresses are byte addresses in hexadecimal digits.
 use Rattle.std.specs.Prelude.{ℕ, ◌*◌, ◌%◌, if◌then◌else◌, nat_eq, List, [], ◌∷◌, ◌++◌, codes, decimal}
-use Rattle.uz_text.specs.Hexadecimals.{hex_word}
+use Rattle.uz_hex.specs.Hexadecimals.{hex_word}
 use Rattle.uz_schedule.specs.declared.kinds.Kind.{Kind}
 use Rattle.uz_schedule.specs.declared.kinds.Kind.TheVariants.{Main, Handler, Alone}
 use Rattle.avr_asm.specs.declared.output.Hint.{Hint}

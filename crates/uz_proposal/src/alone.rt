@@ -4,9 +4,9 @@ ghost use Rattle.std.specs.Prelude.{◌≡◌, ◌<◌, ◌≤◌};
 
 use crate::frame::{Frame, have_lengths, no_frame, odd_frame, part};
 use crate::no_hints::NoHints;
+use crate::{Fall, Line, Period, is_broad, lines_between, mix, period_in};
 use std::alloc::{AllocError, Global};
-use uz_machine::Edge;
-use uz_observation::{Fall, Line, Period, is_broad, lines_between, mix, period_in};
+use uz_core::Edge;
 use uz_schedule::HALF_LINE;
 
 /// The words of the flash.

@@ -1,7 +1,7 @@
 //! The clocks between the last falls of sync in a window.
 
 use crate::no_hints::{NoFrame, NoHints};
-use uz_machine::{Edge, EdgeKind};
+use uz_core::{Edge, EdgeKind};
 
 /// The clocks between the last falls of sync, the last ones last; 0 where there are fewer.
 fn last_distances(edges: &[Edge]) -> [u32; 4] {

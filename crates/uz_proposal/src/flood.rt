@@ -2,13 +2,12 @@
 
 ghost use Rattle.std.specs.Prelude.{◌≡◌, ◌<◌, ◌≤◌, length};
 
+use crate::registers_read;
 use avr_decode::{decode, length};
 use avr_table::words;
 use std::alloc::{AllocError, Global};
-use uz_core::effect;
+use uz_core::{AddressMode, Effect, JumpTarget, effect};
 use uz_hex::{FLASH_WORDS, Image};
-use uz_machine::{AddressMode, Effect, JumpTarget};
-use uz_observation::registers_read;
 
 /// No way is followed deeper than so many bytes: recursion has no end.
 const DEEPEST: u8 = 33;

@@ -3,8 +3,8 @@
 ghost use Rattle.std.specs.Prelude.{◌≡◌, ◌<◌, ◌≤◌, ◌+◌, length};
 
 use crate::no_hints::{NoFrame, NoHints};
+use crate::{Line, Period, is_broad, mix, period_in};
 use std::alloc::{AllocError, Global};
-use uz_observation::{Line, Period, is_broad, mix, period_in};
 use uz_schedule::{HALF_LINE, SCANLINE};
 
 /// The bytes at the entries of the interrupt, so many an entry.

@@ -9,11 +9,11 @@ use crate::frame::{Cells, Frame, frame_of, is_periodic, is_short, no_frame, no_l
 use crate::no_hints::NoHints;
 use crate::remarks::{Remark, Remarked};
 use crate::seen::{Seen, candidates, main_loop, see};
+use crate::{Line, Registers, register_bit, registers_at};
 use avr_asm::Hint;
 use std::alloc::{AllocError, Global};
 use uz_console::Console;
-use uz_machine::address::{SREG, TIMER1_COMPA};
-use uz_observation::{Line, Registers, register_bit, registers_at};
+use uz_core::address::{SREG, TIMER1_COMPA};
 use uz_schedule::{HALF_LINE, Kind};
 
 /// The most bytes that main or the handler may push.

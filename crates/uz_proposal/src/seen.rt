@@ -4,11 +4,9 @@ ghost use Rattle.std.specs.Prelude.{◌≤◌, ◌^◌};
 
 use crate::flood::Flood;
 use crate::no_hints::NoHints;
+use crate::{Survey, Watched, Window, first_marked, is_handling, reach, survey_window, watch};
 use std::alloc::{AllocError, Global};
 use uz_console::Console;
-use uz_observation::{
-    Survey, Watched, Window, first_marked, is_handling, reach, survey_window, watch,
-};
 
 /// The most clocks of a window: two frames of 525 scanlines, and some more.
 const MOST_CLOCKS: u64 = 0x20_0000;

@@ -10,8 +10,8 @@ use crate::remarks::{Remark, Remarked};
 use avr_asm::Hint;
 use itoa::Buffer;
 use std::alloc::{AllocError, Global};
+use uz_hex::word_digits;
 use uz_schedule::Kind;
-use uz_text::word_digits;
 
 /// Adds some text and a number in decimal.
 fn add_number(text: &mut Vec<u8>, before: &[u8], number: u32) -> Result<(), AllocError>

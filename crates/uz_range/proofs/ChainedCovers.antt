@@ -1,7 +1,7 @@
 -- Results chained to an earlier zero flag.
 use Rattle.std.proofs.Common.{◌≡◌, ℕ, Bool, true, false, List, [], ◌∷◌, Option, Some, refl, sym, subst}
 use Rattle.std.specs.Prelude.{slice_set, slice_index_or}
-use Rattle.uz_machine.specs.Arithmetic.{AluResult, chained_result}
+use Rattle.uz_core.specs.Arithmetic.{AluResult, chained_result}
 use Rattle.uz_schedule.specs.declared.facts.Bit.{Bit}
 use Rattle.uz_schedule.specs.declared.facts.Bit.TheVariants.{Zero, One, Free, Old}
 use Rattle.uz_range.specs.declared.answer.Ranged.{Ranged}

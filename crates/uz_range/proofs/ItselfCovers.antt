@@ -4,7 +4,7 @@ use Rattle.std.specs.Prelude.{ℤ, pos, ◌-ℤ◌}
 use Rattle.std.specs.Int.Bits.{and_self, xor_self}
 use Rattle.std.proofs.lemmas.Bool.Decides.{nat_tests}
 use Rattle.std.proofs.lemmas.Int.{ints}
-use Rattle.uz_machine.specs.Arithmetic.{and_of, xor_of, difference_of, logic_result, signed}
+use Rattle.uz_core.specs.Arithmetic.{and_of, xor_of, difference_of, logic_result, signed}
 use Rattle.uz_schedule.specs.Ends.{Ends}
 use Rattle.uz_schedule.specs.declared.facts.Bit.TheVariants.{Free}
 use Rattle.uz_range.specs.Containment.{IsWithin, Covers}

@@ -4,8 +4,8 @@ use Rattle.std.proofs.Common.{bit_or, min, max}
 use Rattle.std.specs.Prelude.{bit_xor}
 use Rattle.std.proofs.lemmas.Nat.{and_le_l, and_le_r, le_or_l, le_or_r, or_lt, xor_lt}
 use Rattle.std.proofs.lemmas.Bool.Decides.{nat_tests}
-use Rattle.uz_machine.specs.Arithmetic.{and_of, or_of, xor_of, complement_of, increment_of, decrement_of, logical_shift_of}
-use Rattle.uz_machine.specs.Arithmetic.{arithmetic_shift_of, rotation_of, bit_value}
+use Rattle.uz_core.specs.Arithmetic.{and_of, or_of, xor_of, complement_of, increment_of, decrement_of, logical_shift_of}
+use Rattle.uz_core.specs.Arithmetic.{arithmetic_shift_of, rotation_of, bit_value}
 use Rattle.uz_schedule.specs.Ends.{Ends}
 use Rattle.uz_schedule.specs.declared.facts.Bit.{Bit}
 use Rattle.uz_schedule.specs.declared.facts.Bit.TheVariants.{One, Free}

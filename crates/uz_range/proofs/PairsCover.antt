@@ -5,7 +5,7 @@ use Rattle.std.specs.Int.{bit_at}
 use Rattle.std.proofs.lemmas.Nat.{or_lt, and_le_l}
 use Rattle.std.proofs.Math.Pow.{shr_mono, pow-lt}
 use Rattle.std.proofs.lemmas.Bool.Decides.{nat_tests}
-use Rattle.uz_machine.specs.Arithmetic.{AluResult, pair_sum_of, pair_difference_of, swap_of, with_bit, bit_is_set}
+use Rattle.uz_core.specs.Arithmetic.{AluResult, pair_sum_of, pair_difference_of, swap_of, with_bit, bit_is_set}
 use Rattle.uz_schedule.specs.Ends.{Ends, hull}
 use Rattle.uz_schedule.specs.declared.facts.Bit.{Bit}
 use Rattle.uz_schedule.specs.declared.facts.Bit.TheVariants.{Zero, One, Free}

@@ -1,7 +1,7 @@
 -- Products.
 use Rattle.std.proofs.Common.{◌≡◌, ℕ, ◌<◌, Bool, true, false, ◌&&◌, [], ◌∷◌, arith}
 use Rattle.std.specs.Prelude.{ℤ, pos, negsuc, ◌*ℤ◌}
-use Rattle.uz_machine.specs.Arithmetic.{low_word, left_shift_of, factor, product_of}
+use Rattle.uz_core.specs.Arithmetic.{low_word, left_shift_of, factor, product_of}
 use Rattle.uz_schedule.specs.Ends.{Ends}
 use Rattle.uz_schedule.specs.declared.facts.Bit.TheVariants.{Free}
 use Rattle.uz_range.specs.declared.products.Form.{Form}

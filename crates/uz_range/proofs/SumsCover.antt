@@ -1,7 +1,7 @@
 -- Sums.
 use Rattle.std.proofs.Common.{◌≡◌, ℕ, ◌+◌, ◌-◌, ◌%◌, ◌<◌, ◌≤◌, Bool, true, ◌&&◌, Some, nat_lt, nat_le, ap, arith}
 use Rattle.std.proofs.lemmas.Bool.Decides.{nat_tests}
-use Rattle.uz_machine.specs.Arithmetic.{sum_of, difference_of, negation_of, byte_result, bit_value}
+use Rattle.uz_core.specs.Arithmetic.{sum_of, difference_of, negation_of, byte_result, bit_value}
 use Rattle.uz_schedule.specs.Ends.{Ends}
 use Rattle.uz_schedule.specs.declared.facts.Bit.{Bit}
 use Rattle.uz_schedule.specs.declared.facts.Bit.TheVariants.{Zero, One, Free}

@@ -1,7 +1,7 @@
 -- The shapes of the range rules' answers (this project's profile).
 -- Of a range's flags Z is 0 where 0 is below it, and else open; N is its top bit where that is known, and else open.
 use Rattle.std.specs.Prelude.{ℕ, Bool, true, false, Option, Some, None, [], ◌∷◌, map, nat_lt, nat_le, nat_eq, if◌then◌else◌}
-use Rattle.uz_machine.specs.Arithmetic.{AluResult}
+use Rattle.uz_core.specs.Arithmetic.{AluResult}
 use Rattle.uz_schedule.specs.Ends.{Ends}
 use Rattle.uz_schedule.specs.declared.facts.Bit.{Bit}
 use Rattle.uz_schedule.specs.declared.facts.Bit.TheVariants.{Zero, One, Free, Old}

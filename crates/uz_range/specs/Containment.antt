@@ -1,6 +1,6 @@
 -- When a byte, a pair or a flag lies in what is known of it.
 use Rattle.std.specs.Prelude.{◌≡◌, ℕ, ◌≤◌, Bool, true, false, Option, Some, List, [], ◌∷◌, ⊤}
-use Rattle.uz_machine.specs.Arithmetic.{AluResult}
+use Rattle.uz_core.specs.Arithmetic.{AluResult}
 use Rattle.uz_schedule.specs.Ends.{Ends}
 use Rattle.uz_schedule.specs.declared.facts.Bit.{Bit}
 use Rattle.uz_schedule.specs.declared.facts.Bit.TheVariants.{Zero, One, Free, Old}

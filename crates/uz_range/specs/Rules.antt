@@ -3,9 +3,9 @@
 -- Set Manual). Else it is the range that the rule names.
 use Rattle.std.specs.Prelude.{ℕ, ◌+◌, ◌-◌, ◌*◌, ◌/◌, ◌%◌, ◌^◌, false, true, ◌&&◌, min, max, slice_set, slice_index_or, nat_lt, nat_le}
 use Rattle.std.specs.Prelude.{nat_eq, if◌then◌else◌}
-use Rattle.uz_machine.specs.Arithmetic.{AluResult, sum_of, difference_of, negation_of, and_of, or_of, xor_of, complement_of, increment_of}
-use Rattle.uz_machine.specs.Arithmetic.{decrement_of, logical_shift_of, arithmetic_shift_of, rotation_of, swap_of, product_of, pair_sum_of}
-use Rattle.uz_machine.specs.Arithmetic.{pair_difference_of, with_bit, bit_is_set}
+use Rattle.uz_core.specs.Arithmetic.{AluResult, sum_of, difference_of, negation_of, and_of, or_of, xor_of, complement_of, increment_of}
+use Rattle.uz_core.specs.Arithmetic.{decrement_of, logical_shift_of, arithmetic_shift_of, rotation_of, swap_of, product_of, pair_sum_of}
+use Rattle.uz_core.specs.Arithmetic.{pair_difference_of, with_bit, bit_is_set}
 use Rattle.uz_schedule.specs.Ends.{Ends}
 use Rattle.uz_schedule.specs.declared.facts.Bit.{Bit}
 use Rattle.uz_schedule.specs.declared.facts.Bit.TheVariants.{Zero, One, Free}

@@ -1,7 +1,7 @@
 //! What a range rule answers: a range and flags, and the shapes that answers have.
 
 ghost use Rattle.std.specs.Prelude.{◌≡◌, ◌≤◌, ◌<◌};
-ghost use Rattle.uz_machine.specs.Arithmetic.{alu_result, flag_at};
+ghost use Rattle.uz_core.specs.Arithmetic.{alu_result, flag_at};
 ghost use Rattle.uz_range.specs.Answers.{is_single as is_single_range, is_known as is_known_flag, least_carry};
 ghost use Rattle.uz_range.specs.Answers.{most_carry, is_one, flag_of, exact_answer, zero_flag, negative_flag};
 ghost use Rattle.uz_range.specs.Answers.{arithmetic_answer, logic_answer, exact_wide_answer, negative_wide_flag};

@@ -1,7 +1,7 @@
 //! Single bits of bytes in ranges.
 
 ghost use Rattle.std.specs.Prelude.{◌≡◌, ◌<◌, ℕ, Bool, Some};
-ghost use Rattle.uz_machine.specs.Arithmetic.{with_bit as byte_with_bit, bit_is_set};
+ghost use Rattle.uz_core.specs.Arithmetic.{with_bit as byte_with_bit, bit_is_set};
 ghost use Rattle.uz_range.specs.Containment.{IsWithin, MayBe, Admits};
 ghost use Rattle.uz_range.specs.Rules.{bld_answer, bst_answer};
 

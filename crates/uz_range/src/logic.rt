@@ -1,7 +1,7 @@
 //! Bitwise operations on bytes in ranges, and operations of a register with itself.
 
 ghost use Rattle.std.specs.Prelude.{◌≡◌, ◌<◌, ℕ, false};
-ghost use Rattle.uz_machine.specs.Arithmetic.{and_of, or_of, xor_of, complement_of, difference_of};
+ghost use Rattle.uz_core.specs.Arithmetic.{and_of, or_of, xor_of, complement_of, difference_of};
 ghost use Rattle.uz_range.specs.Containment.{IsWithin, Covers};
 ghost use Rattle.uz_range.specs.Rules.{and_answer, or_answer, xor_answer, com_answer, same_and_answer, same_xor_answer, same_sub_answer};
 

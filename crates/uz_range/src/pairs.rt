@@ -1,7 +1,7 @@
 //! Pairs of registers in ranges.
 
 ghost use Rattle.std.specs.Prelude.{◌≡◌, ◌<◌, ◌≤◌, ◌+◌, ◌*◌, ◌/◌, ◌%◌, ℕ};
-ghost use Rattle.uz_machine.specs.Arithmetic.{pair_sum_of, pair_difference_of};
+ghost use Rattle.uz_core.specs.Arithmetic.{pair_sum_of, pair_difference_of};
 ghost use Rattle.uz_schedule.specs.Ends.{hull as hull_of};
 ghost use Rattle.uz_range.specs.Containment.{IsWithin, CoversWide};
 ghost use Rattle.uz_range.specs.Rules.{pair_add_answer, pair_sub_answer, low_answer, high_answer};

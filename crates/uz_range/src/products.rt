@@ -1,7 +1,7 @@
 //! Products of bytes in ranges.
 
 ghost use Rattle.std.specs.Prelude.{◌≡◌, ℕ};
-ghost use Rattle.uz_machine.specs.Arithmetic.{alu_result};
+ghost use Rattle.uz_core.specs.Arithmetic.{alu_result};
 ghost use Rattle.uz_range.specs.Containment.{IsWithin, CoversWide};
 ghost use Rattle.uz_range.specs.Rules.{product_by, product_answer};
 

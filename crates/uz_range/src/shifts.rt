@@ -1,7 +1,7 @@
 //! Shifts to the right, and the exchange of a byte's halves.
 
 ghost use Rattle.std.specs.Prelude.{◌≡◌, ◌<◌, ℕ, Bool};
-ghost use Rattle.uz_machine.specs.Arithmetic.{logical_shift_of, arithmetic_shift_of, rotation_of, swap_of};
+ghost use Rattle.uz_core.specs.Arithmetic.{logical_shift_of, arithmetic_shift_of, rotation_of, swap_of};
 ghost use Rattle.uz_range.specs.Containment.{IsWithin, MayBe, Covers};
 ghost use Rattle.uz_range.specs.Rules.{lsr_answer, asr_answer, ror_answer, swap_answer};
 

@@ -1,7 +1,7 @@
 //! Sums, differences and steps by one of bytes in ranges.
 
 ghost use Rattle.std.specs.Prelude.{◌≡◌, ◌≤◌, ◌<◌, ℕ, Bool};
-ghost use Rattle.uz_machine.specs.Arithmetic.{AluResult, sum_of, difference_of, negation_of, increment_of, decrement_of, chained_result};
+ghost use Rattle.uz_core.specs.Arithmetic.{AluResult, sum_of, difference_of, negation_of, increment_of, decrement_of, chained_result};
 ghost use Rattle.uz_range.specs.Containment.{IsWithin, MayBe, Covers};
 ghost use Rattle.uz_range.specs.Rules.{wrapped_sum, sum_answer, wrapped_difference, difference_answer, chained_zero};
 ghost use Rattle.uz_range.specs.Rules.{chained_answer, negate_answer, step_up_answer, step_down_answer};

@@ -3,14 +3,14 @@ use Rattle.std.proofs.Common.{◌≡◌, All, ℕ, ◌-◌, List, [], ◌∷◌,
 use Rattle.std.specs.Prelude.{⊤}
 use Rattle.std.specs.List.{flat_map}
 use Rattle.std.proofs.lemmas.List.Elements.{All-cons}
-use Rattle.uz_machine.specs.declared.Edge.{Edge}
-use Rattle.uz_machine.specs.declared.EdgeKind.{EdgeKind}
-use Rattle.uz_machine.specs.declared.EdgeKind.TheVariants.{Sync, Pixel, Sound, Enter, Leave}
+use Rattle.uz_core.specs.declared.machine.Edge.{Edge}
+use Rattle.uz_core.specs.declared.machine.EdgeKind.{EdgeKind}
+use Rattle.uz_core.specs.declared.machine.EdgeKind.TheVariants.{Sync, Pixel, Sound, Enter, Leave}
 use Rattle.uz_schedule.specs.declared.states.Rest.{Rest}
 use Rattle.uz_schedule.specs.declared.certificate.Cert.{Cert}
 use Rattle.uz_schedule.specs.Schedule.{length_of}
-use Rattle.uz_soundness.specs.ReturnTimes.{return_at}
-use Rattle.uz_soundness.specs.Ways.{Phase, InMain, InHandler, MainsTime, ReturnsAt, told}
+use Rattle.uz_check.specs.ReturnTimes.{return_at}
+use Rattle.uz_check.specs.Ways.{Phase, InMain, InHandler, MainsTime, ReturnsAt, told}
 use Rattle.uz_report.specs.MainsTime.{Gap, IsWithin, clocks_of, edges_of, entries_and_returns, is_entry_or_return}
 use Rattle.uz_report.proofs.Gaps.{within}
 

@@ -2,14 +2,14 @@
 use Rattle.std.proofs.Common.{◌≡◌, All, ℕ, ◌+◌, ◌-◌, ◌≤◌, List, [], ◌∷◌, ◌++◌, ◌∙◌, ap, subst, arith, append_assoc}
 use Rattle.std.proofs.lemmas.List.{map-append}
 use Rattle.std.proofs.lemmas.List.Elements.{All-tail}
-use Rattle.uz_machine.specs.declared.Edge.{Edge}
-use Rattle.uz_machine.specs.declared.EdgeKind.{EdgeKind}
-use Rattle.uz_machine.specs.declared.EdgeKind.TheVariants.{Sync, Pixel, Sound, Enter, Leave}
+use Rattle.uz_core.specs.declared.machine.Edge.{Edge}
+use Rattle.uz_core.specs.declared.machine.EdgeKind.{EdgeKind}
+use Rattle.uz_core.specs.declared.machine.EdgeKind.TheVariants.{Sync, Pixel, Sound, Enter, Leave}
 use Rattle.uz_schedule.specs.declared.states.Rest.{Rest}
 use Rattle.uz_schedule.specs.declared.certificate.Cert.{Cert}
 use Rattle.uz_schedule.specs.Schedule.{length_of}
-use Rattle.uz_soundness.specs.ReturnTimes.{return_at}
-use Rattle.uz_soundness.specs.Ways.{IsPlain, Phase, InMain, InHandler, MainsTime, ReturnsAt, told}
+use Rattle.uz_check.specs.ReturnTimes.{return_at}
+use Rattle.uz_check.specs.Ways.{IsPlain, Phase, InMain, InHandler, MainsTime, ReturnsAt, told}
 use Rattle.uz_report.specs.MainsTime.{Rested, EachGap, EachAtRest}
 
 -- what is told after one more entry or return

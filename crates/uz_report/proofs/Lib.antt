@@ -7,3 +7,5 @@ pub mod Rounds
 pub mod Samples
 pub mod Sums
 pub mod Turns
+pub mod Fields
+pub mod Tallies

@@ -7,17 +7,17 @@ use Rattle.std.specs.FinMap.{FinMap}
 use Rattle.std.proofs.Math.Nat.{mod-add-mod, mod-eq_of_lt}
 use Rattle.std.proofs.lemmas.List.{map-append}
 use Rattle.std.proofs.lemmas.List.Elements.{All-head, All-tail}
-use Rattle.uz_machine.specs.declared.Edge.{Edge}
-use Rattle.uz_machine.specs.declared.EdgeKind.{EdgeKind}
-use Rattle.uz_machine.specs.declared.EdgeKind.TheVariants.{Leave}
+use Rattle.uz_core.specs.declared.machine.Edge.{Edge}
+use Rattle.uz_core.specs.declared.machine.EdgeKind.{EdgeKind}
+use Rattle.uz_core.specs.declared.machine.EdgeKind.TheVariants.{Leave}
 use Rattle.uz_schedule.specs.Schedule.{At, event_at, frame_of, length_of, start_of}
 use Rattle.uz_schedule.specs.WellFormed.{RestFits, WellFormed}
 use Rattle.uz_schedule.specs.declared.lines.Schedule.{Schedule}
 use Rattle.uz_schedule.specs.declared.states.Rest.{Rest}
 use Rattle.uz_schedule.specs.declared.certificate.Cert.{Cert}
-use Rattle.uz_soundness.specs.Acceptance.{Accepts}
-use Rattle.uz_soundness.specs.ReturnTimes.{HasReturn, IsReturnDue, ReturnsHold, ReturnsInTime, return_at}
-use Rattle.uz_soundness.specs.Ways.{MainsTime, MainsTimeHolds, Phase, ReturnsAt, told}
+use Rattle.uz_check.specs.Acceptance.{Accepts}
+use Rattle.uz_check.specs.ReturnTimes.{HasReturn, IsReturnDue, ReturnsHold, ReturnsInTime, return_at}
+use Rattle.uz_check.specs.Ways.{MainsTime, MainsTimeHolds, Phase, ReturnsAt, told}
 use Rattle.uz_report.specs.MainsTime.{AreInFrameOrder, EachReturn, EachRound, Gap, IsWithin, MainsTimeTells, Round, clocks_of, edges_of}
 use Rattle.uz_report.specs.MainsTime.{entries_and_returns}
 use Rattle.uz_report.proofs.GapLists.{gaps_between}

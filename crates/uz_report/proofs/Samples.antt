@@ -1,6 +1,6 @@
 -- What an edge adds to the samples.
 use Rattle.std.proofs.Common.{◌≡◌, ℕ, Bool, true, false, List, [], ◌∷◌, ◌++◌, if◌then◌else◌, sym, ap, ◌∙◌, append-nil}
-use Rattle.uz_machine.specs.declared.Edge.{Edge}
+use Rattle.uz_core.specs.declared.machine.Edge.{Edge}
 use Rattle.uz_scan.specs.declared.records.LineInfo.{LineInfo}
 use Rattle.uz_scan.specs.declared.records.FrameInfo.{FrameInfo}
 use Rattle.uz_scan.specs.declared.scanner.Scan.{Scan}

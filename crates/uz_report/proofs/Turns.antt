@@ -1,11 +1,11 @@
 -- Entries and returns take turns, out of what is told of main's time.
 use Rattle.std.proofs.Common.{◌≡◌, ◌⊎◌, inl, inr, ℕ, Bool, true, false, not, cond, List, [], ◌∷◌, ◌++◌, refl, sym, subst}
 use Rattle.std.specs.Prelude.{⊤}
-use Rattle.uz_machine.specs.declared.Edge.{Edge}
-use Rattle.uz_machine.specs.declared.EdgeKind.{EdgeKind}
-use Rattle.uz_machine.specs.declared.EdgeKind.TheVariants.{Sync, Pixel, Sound, Enter, Leave}
+use Rattle.uz_core.specs.declared.machine.Edge.{Edge}
+use Rattle.uz_core.specs.declared.machine.EdgeKind.{EdgeKind}
+use Rattle.uz_core.specs.declared.machine.EdgeKind.TheVariants.{Sync, Pixel, Sound, Enter, Leave}
 use Rattle.uz_schedule.specs.declared.certificate.Cert.{Cert}
-use Rattle.uz_soundness.specs.Ways.{Phase, InMain, InHandler, MainsTime, told}
+use Rattle.uz_check.specs.Ways.{Phase, InMain, InHandler, MainsTime, told}
 use Rattle.uz_report.specs.MainsTime.{IsEntry, TakeTurns, entries_and_returns, is_entry_or_return}
 
 -- an entry of main, a return of the handler

@@ -1,3 +1,12 @@
 pub mod MainsTime
 pub mod Slacks
 pub mod Waves
+pub mod Findings
+pub mod KindText
+pub mod FrameText
+pub mod Order
+pub mod Places
+pub mod Pulses
+pub mod Shown
+pub mod Timing
+pub mod Words

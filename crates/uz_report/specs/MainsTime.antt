@@ -3,21 +3,21 @@ use Rattle.std.specs.Prelude.{◌≡◌, ◌⊎◌, ⊤, All, Contains, ℕ, ◌
 use Rattle.std.specs.List.{flat_map, sum_by}
 use Rattle.std.specs.Ordering.{nat_cmp}
 use Rattle.std.specs.FinMap.{FinMap}
-use Rattle.uz_machine.specs.declared.Edge.{Edge}
-use Rattle.uz_machine.specs.declared.EdgeKind.{EdgeKind}
-use Rattle.uz_machine.specs.declared.EdgeKind.TheVariants.{Sync, Pixel, Sound, Enter, Leave}
-use Rattle.uz_machine.specs.PadLine.{PadHistory}
-use Rattle.uz_machine.specs.Space.{history_wiring}
-use Rattle.uz_machine.specs.Turn.{State, Turn}
-use Rattle.uz_machine.specs.StateRange.{IsState}
-use Rattle.uz_machine.specs.Run.{Run}
+use Rattle.uz_core.specs.declared.machine.Edge.{Edge}
+use Rattle.uz_core.specs.declared.machine.EdgeKind.{EdgeKind}
+use Rattle.uz_core.specs.declared.machine.EdgeKind.TheVariants.{Sync, Pixel, Sound, Enter, Leave}
+use Rattle.uz_core.specs.PadLine.{PadHistory}
+use Rattle.uz_core.specs.Space.{history_wiring}
+use Rattle.uz_core.specs.Turn.{State, Turn}
+use Rattle.uz_core.specs.StateRange.{IsState}
+use Rattle.uz_core.specs.Run.{Run}
 use Rattle.uz_schedule.specs.Schedule.{At, frame_of}
 use Rattle.uz_schedule.specs.declared.kinds.Kind.TheVariants.{Main}
 use Rattle.uz_schedule.specs.declared.states.Rest.{Rest}
 use Rattle.uz_schedule.specs.declared.certificate.Cert.{Cert}
 use Rattle.uz_console.specs.Entry.{EntryCondition}
-use Rattle.uz_soundness.specs.ReturnTimes.{HasReturn, return_at}
-use Rattle.uz_soundness.specs.Ways.{IsPlain, ReturnsAt}
+use Rattle.uz_check.specs.ReturnTimes.{HasReturn, return_at}
+use Rattle.uz_check.specs.Ways.{IsPlain, ReturnsAt}
 use Rattle.uz_report.specs.Slacks.{least_after, frame_least, frame_most, latest}
 
 -- Entries and returns

@@ -1,7 +1,7 @@
 -- The sound of a run as a WAVE file.
 use Rattle.std.specs.Prelude.{◌≡◌, ℕ, ◌+◌, ◌%◌, ◌==◌, if◌then◌else◌, List, [], ◌∷◌, ◌++◌, codes, length}
 use Rattle.byteorder.specs.Endian.{little_bytes}
-use Rattle.uz_machine.specs.declared.Edge.{Edge}
+use Rattle.uz_core.specs.declared.machine.Edge.{Edge}
 use Rattle.uz_scan.specs.Lines.{ends_line}
 use Rattle.uz_scan.specs.Pictures.{newest_first, sound_of}
 use Rattle.uz_scan.specs.Scanning as scanning

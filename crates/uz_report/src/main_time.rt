@@ -5,9 +5,8 @@ ghost use Rattle.uz_report.specs.Slacks.{frame_least, frame_most, slack_of as sl
 ghost use Rattle.uz_report.specs.MainsTime.{MainsTimeTells};
 
 use std::alloc::{AllocError, Global};
-use uz_check::Accepted;
+use uz_check::{Accepted, soundness};
 use uz_schedule::{Rest, Schedule, places_go_on};
-use uz_soundness::soundness;
 
 /// An interrupt is taken up to so many clocks after its line's end, while an instruction of main ends.
 const LATEST: u32 = 3;

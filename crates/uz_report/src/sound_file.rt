@@ -1,11 +1,11 @@
 //! The sound of a run as a file whose samples grow with its lines.
 
 ghost use Rattle.std.specs.Prelude.{◌≡◌, ◌≤◌, ◌<◌, ◌^◌, ◌+◌, ◌↔◌, ◌∷◌, ◌++◌, [], List, length, Err, OnErr, OnOk, vec_capacity, vec_len};
-ghost use Rattle.uz_machine.specs.declared.Edge.{Edge};
+ghost use Rattle.uz_core.specs.declared.machine.Edge.{Edge};
 
 use crate::header::wave_header;
 use std::alloc::{AllocError, Global};
-use uz_machine::Edge;
+use uz_core::Edge;
 use uz_scan::{Scan, Scanner};
 
 /// The most samples of a file, whose lengths are 32-bit numbers.

@@ -6,33 +6,33 @@ use Rattle.std.specs.Ordering.{nat_cmp}
 use Rattle.std.specs.FinMap.{FinMap}
 use Rattle.std.specs.List.{AllByRecursion}
 use Rattle.std.proofs.lemmas.Bool.Decides.{nat_tests}
-use Rattle.uz_machine.specs.declared.AddressMode.{AddressMode}
-use Rattle.uz_machine.specs.declared.AddressMode.TheVariants.{Direct, Displacement, PostIncrement, PreDecrement}
-use Rattle.uz_machine.specs.declared.Effect.{Effect}
-use Rattle.uz_machine.specs.declared.Effect.TheVariants.{NoOperation, CopyByte, CopyPair, Binary, Unary, AddToPair, Multiply, Load, Store}
-use Rattle.uz_machine.specs.declared.Effect.TheVariants.{PushByte, PopByte, LoadProgram, WriteIoBit, WriteFlag, LoadBit, StoreBit, Branch}
-use Rattle.uz_machine.specs.declared.Effect.TheVariants.{SkipIf, Jump, Return, Stop}
-use Rattle.uz_machine.specs.declared.JumpTarget.{JumpTarget}
-use Rattle.uz_machine.specs.declared.HeldStore.{HeldStore}
-use Rattle.uz_machine.specs.declared.HeldStore.TheVariants.{Byte}
-use Rattle.uz_machine.specs.Arithmetic.{bit_is_set, with_bit, product_of}
-use Rattle.uz_machine.specs.Core.{Core, register, pair, with_sp, is_core_address, effective_address, following_pc, load_addresses}
-use Rattle.uz_machine.specs.Core.{loaded_bytes, content_after_loads, pc_stores, stores_of, with_store, leaves_core, changed_core}
-use Rattle.uz_machine.specs.Core.{binary_result, unary_result, add_to_pair_result, operand_value}
-use Rattle.uz_machine.specs.CoreRange.{IsByte, IsCore}
-use Rattle.uz_machine.specs.OperandRanges.{AddressModeFits, EffectFits}
-use Rattle.uz_machine.specs.Space.{PadWiring, Space, byte_at, space_after, space_loads}
-use Rattle.uz_machine.specs.Turn.{sync_level}
+use Rattle.uz_core.specs.declared.machine.AddressMode.{AddressMode}
+use Rattle.uz_core.specs.declared.machine.AddressMode.TheVariants.{Direct, Displacement, PostIncrement, PreDecrement}
+use Rattle.uz_core.specs.declared.machine.Effect.{Effect}
+use Rattle.uz_core.specs.declared.machine.Effect.TheVariants.{NoOperation, CopyByte, CopyPair, Binary, Unary, AddToPair, Multiply, Load, Store}
+use Rattle.uz_core.specs.declared.machine.Effect.TheVariants.{PushByte, PopByte, LoadProgram, WriteIoBit, WriteFlag, LoadBit, StoreBit, Branch}
+use Rattle.uz_core.specs.declared.machine.Effect.TheVariants.{SkipIf, Jump, Return, Stop}
+use Rattle.uz_core.specs.declared.machine.JumpTarget.{JumpTarget}
+use Rattle.uz_core.specs.declared.machine.HeldStore.{HeldStore}
+use Rattle.uz_core.specs.declared.machine.HeldStore.TheVariants.{Byte}
+use Rattle.uz_core.specs.Arithmetic.{bit_is_set, with_bit, product_of}
+use Rattle.uz_core.specs.Core.{Core, register, pair, with_sp, is_core_address, effective_address, following_pc, load_addresses}
+use Rattle.uz_core.specs.Core.{loaded_bytes, content_after_loads, pc_stores, stores_of, with_store, leaves_core, changed_core}
+use Rattle.uz_core.specs.Core.{binary_result, unary_result, add_to_pair_result, operand_value}
+use Rattle.uz_core.specs.CoreRange.{IsByte, IsCore}
+use Rattle.uz_core.specs.OperandRanges.{AddressModeFits, EffectFits}
+use Rattle.uz_core.specs.Space.{PadWiring, Space, byte_at, space_after, space_loads}
+use Rattle.uz_core.specs.Turn.{sync_level}
 use Rattle.uz_schedule.specs.declared.header.Head.{Head}
 use Rattle.uz_schedule.specs.declared.lines.EventKind.{EventKind}
 use Rattle.uz_schedule.specs.declared.states.Instance.{Instance}
-use Rattle.uz_transfer.specs.Values.{value_at}
-use Rattle.uz_transfer.specs.Kinds.{depth_limit, is_main, is_handler}
-use Rattle.uz_transfer.specs.Memory.{address_range, with_pointer_range, stored_in, with_slots, without_slots, depth_of}
-use Rattle.uz_transfer.specs.Transfer.{pc_values, transfer}
-use Rattle.uz_transfer.specs.Emission.{emission_at}
-use Rattle.uz_transfer.specs.Refusals.{fail_of}
-use Rattle.uz_machine.specs.Core.{returns_from_interrupt}
+use Rattle.uz_rules.specs.Values.{value_at}
+use Rattle.uz_rules.specs.Kinds.{depth_limit, is_main, is_handler}
+use Rattle.uz_rules.specs.Memory.{address_range, with_pointer_range, stored_in, with_slots, without_slots, depth_of}
+use Rattle.uz_rules.specs.Transfer.{pc_values, transfer}
+use Rattle.uz_rules.specs.Emission.{emission_at}
+use Rattle.uz_rules.specs.Refusals.{fail_of}
+use Rattle.uz_core.specs.Core.{returns_from_interrupt}
 use Rattle.uz_rules.proofs.CoreKeeps.{register_byte, pair_word}
 use Rattle.uz_rules.proofs.MemoryKeeps.{pop_meets}
 use Rattle.uz_core.proofs.SregBits.{binary_seven, bit_of_with_bit, enabled_kept, pair_seven, unary_seven}

@@ -12,29 +12,29 @@ use Rattle.avr_table.specs.declared.Instr.{Instr}
 use Rattle.avr_table.specs.declared.Outcome.{Outcome}
 use Rattle.avr_table.specs.Rows.{Reads, words_of, clocks_of}
 use Rattle.avr_decode.proofs.Unique.{unique}
-use Rattle.uz_machine.specs.declared.Edge.{Edge}
-use Rattle.uz_machine.specs.declared.EdgeKind.{EdgeKind}
-use Rattle.uz_machine.specs.declared.EdgeKind.TheVariants.{Sync as SyncEdge, Pixel as PixelEdge, Sound as SoundEdge, Enter as EnterEdge}
-use Rattle.uz_machine.specs.declared.EdgeKind.TheVariants.{Leave as LeaveEdge}
-use Rattle.uz_machine.specs.declared.Effect.{Effect}
-use Rattle.uz_machine.specs.declared.AddressMode.{AddressMode}
-use Rattle.uz_machine.specs.declared.Effect.TheVariants.{NoOperation, Binary, Load, Store, LoadProgram, WriteIoBit, WriteFlag, Jump, Return}
-use Rattle.uz_machine.specs.declared.Effect.TheVariants.{Stop}
-use Rattle.uz_machine.specs.Arithmetic.{bit_is_set}
-use Rattle.uz_machine.specs.Effects.{effect_of}
-use Rattle.uz_machine.specs.Core.{Core, following_pc, load_addresses, sample_clock, loaded_bytes, content_after_loads, outcome_of, next_pc}
-use Rattle.uz_machine.specs.Core.{changed_core, owes_instruction, returns_from_interrupt, StepResult, effect_result}
-use Rattle.uz_machine.specs.Timer.{is_due, is_counting, count_after, matches_within, timer_after}
-use Rattle.uz_machine.specs.PadLine.{PadHistory}
-use Rattle.uz_machine.specs.Space.{Space, history_wiring, byte_at, space_after, space_loads}
-use Rattle.uz_machine.specs.Turn.{State, sync_level, all_edge_kinds, state_after, edges_at, is_entry, after_instruction, instruction_edges}
-use Rattle.uz_machine.specs.Turn.{Turn}
-use Rattle.uz_machine.specs.StateRange.{IsState}
-use Rattle.uz_machine.specs.CoreRange.{IsByte}
-use Rattle.uz_machine.specs.OperandRanges.{EffectFits}
-use Rattle.uz_machine.proofs.EffectRanges.{effect_fits}
-use Rattle.uz_machine.proofs.RowClocks.{clocks_within, stops}
-use Rattle.uz_machine.proofs.StateKept.{state_kept}
+use Rattle.uz_core.specs.declared.machine.Edge.{Edge}
+use Rattle.uz_core.specs.declared.machine.EdgeKind.{EdgeKind}
+use Rattle.uz_core.specs.declared.machine.EdgeKind.TheVariants.{Sync as SyncEdge, Pixel as PixelEdge, Sound as SoundEdge, Enter as EnterEdge}
+use Rattle.uz_core.specs.declared.machine.EdgeKind.TheVariants.{Leave as LeaveEdge}
+use Rattle.uz_core.specs.declared.machine.Effect.{Effect}
+use Rattle.uz_core.specs.declared.machine.AddressMode.{AddressMode}
+use Rattle.uz_core.specs.declared.machine.Effect.TheVariants.{NoOperation, Binary, Load, Store, LoadProgram, WriteIoBit, WriteFlag, Jump, Return}
+use Rattle.uz_core.specs.declared.machine.Effect.TheVariants.{Stop}
+use Rattle.uz_core.specs.Arithmetic.{bit_is_set}
+use Rattle.uz_core.specs.Effects.{effect_of}
+use Rattle.uz_core.specs.Core.{Core, following_pc, load_addresses, sample_clock, loaded_bytes, content_after_loads, outcome_of, next_pc}
+use Rattle.uz_core.specs.Core.{changed_core, owes_instruction, returns_from_interrupt, StepResult, effect_result}
+use Rattle.uz_core.specs.Timer.{is_due, is_counting, count_after, matches_within, timer_after}
+use Rattle.uz_core.specs.PadLine.{PadHistory}
+use Rattle.uz_core.specs.Space.{Space, history_wiring, byte_at, space_after, space_loads}
+use Rattle.uz_core.specs.Turn.{State, sync_level, all_edge_kinds, state_after, edges_at, is_entry, after_instruction, instruction_edges}
+use Rattle.uz_core.specs.Turn.{Turn}
+use Rattle.uz_core.specs.StateRange.{IsState}
+use Rattle.uz_core.specs.CoreRange.{IsByte}
+use Rattle.uz_core.specs.OperandRanges.{EffectFits}
+use Rattle.uz_core.proofs.EffectRanges.{effect_fits}
+use Rattle.uz_core.proofs.RowClocks.{clocks_within, stops}
+use Rattle.uz_core.proofs.StateKept.{state_kept}
 use Rattle.uz_schedule.specs.Ends.{Ends}
 use Rattle.uz_schedule.specs.declared.facts.Val.{Val}
 use Rattle.uz_range.specs.Answers.{is_single}
@@ -44,27 +44,27 @@ use Rattle.uz_schedule.specs.declared.header.Head.{Head}
 use Rattle.uz_schedule.specs.declared.lines.EventKind.{EventKind}
 use Rattle.uz_schedule.specs.declared.lines.EventKind.TheVariants.{Sync, Pixel, Sound, Leave}
 use Rattle.uz_schedule.specs.declared.states.Instance.{Instance}
-use Rattle.uz_transfer.specs.declared.fail.Fail.{Fail}
-use Rattle.uz_transfer.specs.declared.fail.Fail.TheVariants.{Mask}
-use Rattle.uz_transfer.specs.Kinds.{cell_place, is_main, is_handler}
+use Rattle.uz_rules.specs.declared.fail.Fail.{Fail}
+use Rattle.uz_rules.specs.declared.fail.Fail.TheVariants.{Mask}
+use Rattle.uz_rules.specs.Kinds.{cell_place, is_main, is_handler}
 use Rattle.uz_rules.specs.MemoryMeets.{HeadFits, Untouched}
-use Rattle.uz_transfer.specs.Memory.{depth_of, address_range, with_pointer_range, flags_from, with_cell, stored_in}
-use Rattle.uz_transfer.specs.Transfer.{transfer, bit_of_bool}
-use Rattle.uz_transfer.specs.Emission.{byte_event, bit_event, level_event, emission, emission_at, level_after}
-use Rattle.uz_transfer.specs.Values.{span_of, value_at, with_flag_list}
-use Rattle.uz_transfer.specs.Refusals.{fail_of}
+use Rattle.uz_rules.specs.Memory.{depth_of, address_range, with_pointer_range, flags_from, with_cell, stored_in}
+use Rattle.uz_rules.specs.Transfer.{transfer, bit_of_bool}
+use Rattle.uz_rules.specs.Emission.{byte_event, bit_event, level_event, emission, emission_at, level_after}
+use Rattle.uz_rules.specs.Values.{span_of, value_at, with_flag_list}
+use Rattle.uz_rules.specs.Refusals.{fail_of}
 use Rattle.uz_rules.specs.Events.{event_of, shown_at, shown, listed}
 use Rattle.uz_rules.proofs.StoreShows.{kinds_listed}
 use Rattle.uz_schedule.specs.Lines.{Lines}
-use Rattle.uz_transfer.specs.Step.{clears_flag, following_of, sampled_of, draft_of, all_exits, step_unless, step_of_row, successor}
-use Rattle.uz_transfer.specs.Step.{IsReadAt}
-use Rattle.uz_transfer.specs.InTime.{clock_holds}
+use Rattle.uz_rules.specs.Step.{clears_flag, following_of, sampled_of, draft_of, all_exits, step_unless, step_of_row, successor}
+use Rattle.uz_rules.specs.Step.{IsReadAt}
+use Rattle.uz_rules.specs.InTime.{clock_holds}
 use Rattle.uz_rules.specs.Meets.{TimerMeets, TimerCounts, LevelMeets, Meets, InstanceFits}
 use Rattle.uz_rules.specs.OneStep.{IsNoEntry, MainTimer, OneStep, InstructionBegins, Contained, AloneContained}
 use Rattle.uz_rules.specs.OneStep.{MainContained}
-use Rattle.uz_transfer.specs.Emission.{main_emits}
-use Rattle.uz_transfer.specs.declared.step.Exit.{Exit}
-use Rattle.uz_transfer.specs.declared.step.Step.{Step}
+use Rattle.uz_rules.specs.Emission.{main_emits}
+use Rattle.uz_rules.specs.declared.step.Exit.{Exit}
+use Rattle.uz_rules.specs.declared.step.Step.{Step}
 use Rattle.uz_rules.proofs.LeavesHold.{stores_leave, facts_of}
 use Rattle.uz_rules.proofs.Timing.{loads_beside, stores_beside, later}
 use Rattle.uz_rules.proofs.TopAndTemp.{top_stays}

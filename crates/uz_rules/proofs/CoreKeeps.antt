@@ -4,17 +4,17 @@ use Rattle.std.proofs.Common.{length, refl, sym, ◌∙◌, ap, subst, inl, inr,
 use Rattle.std.specs.Prelude.{slice_index, slice_index_or, slice_set}
 use Rattle.std.proofs.lemmas.List.{length-set}
 use Rattle.std.proofs.lemmas.Bool.Decides.{eqb_tells, nat_tests}
-use Rattle.uz_machine.specs.Core.{Core, register, pair, with_register}
-use Rattle.uz_machine.specs.CoreRange.{IsByte, IsCore}
-use Rattle.uz_machine.proofs.ByteLists.{byte_at, bytes_set}
+use Rattle.uz_core.specs.Core.{Core, register, pair, with_register}
+use Rattle.uz_core.specs.CoreRange.{IsByte, IsCore}
+use Rattle.uz_core.proofs.ByteLists.{byte_at, bytes_set}
 use Rattle.uz_schedule.specs.Ends.{Ends}
 use Rattle.uz_schedule.specs.declared.facts.Val.{Val}
 use Rattle.uz_schedule.specs.declared.facts.Val.TheVariants.{Range, Old, OldFlags}
 use Rattle.uz_schedule.specs.declared.states.Instance.{Instance}
 use Rattle.uz_range.specs.Containment.{IsWithin}
 use Rattle.uz_range.specs.Answers.{ends}
-use Rattle.uz_transfer.specs.Values.{span_of, value_at, pair_at, byte_hull, is_pointer, pair_number, pair_range, with_value}
-use Rattle.uz_transfer.specs.Values.{with_pair_range}
+use Rattle.uz_rules.specs.Values.{span_of, value_at, pair_at, byte_hull, is_pointer, pair_number, pair_range, with_value}
+use Rattle.uz_rules.specs.Values.{with_pair_range}
 use Rattle.uz_rules.specs.CoreMeets.{ValueHolds, CoreMeets}
 
 -- Lists

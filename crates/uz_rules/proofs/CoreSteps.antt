@@ -6,12 +6,12 @@ use Rattle.std.specs.Int.{bit_at}
 use Rattle.std.proofs.lemmas.Bool.Decides.{eqb_tells, nat_tests}
 use Rattle.std.proofs.lemmas.Nat.Bits.{bit_at-suc, bit_at_lowest, bit_at-lt, bit_at_cat_low, bit_at_cat_high, same_from_bits_below}
 use Rattle.std.proofs.lemmas.Nat.Bits.{bit_at_above}
-use Rattle.uz_machine.specs.declared.AddressMode.{AddressMode}
-use Rattle.uz_machine.specs.declared.AddressMode.TheVariants.{Direct, Displacement, PostIncrement, PreDecrement}
-use Rattle.uz_machine.specs.Arithmetic.{AluResult, bit_value, bit_is_set}
-use Rattle.uz_machine.specs.Core.{Core, register, pair, with_register, with_pair, with_flags, effective_address, with_pointer_after}
-use Rattle.uz_machine.specs.CoreRange.{IsCore}
-use Rattle.uz_machine.specs.OperandRanges.{AddressModeFits}
+use Rattle.uz_core.specs.declared.machine.AddressMode.{AddressMode}
+use Rattle.uz_core.specs.declared.machine.AddressMode.TheVariants.{Direct, Displacement, PostIncrement, PreDecrement}
+use Rattle.uz_core.specs.Arithmetic.{AluResult, bit_value, bit_is_set}
+use Rattle.uz_core.specs.Core.{Core, register, pair, with_register, with_pair, with_flags, effective_address, with_pointer_after}
+use Rattle.uz_core.specs.CoreRange.{IsCore}
+use Rattle.uz_core.specs.OperandRanges.{AddressModeFits}
 use Rattle.uz_schedule.specs.Ends.{Ends}
 use Rattle.uz_schedule.specs.declared.facts.Bit.{Bit}
 use Rattle.uz_schedule.specs.declared.facts.Bit.TheVariants.{Zero, One, Free, Old as OldBit}
@@ -22,11 +22,11 @@ use Rattle.uz_range.specs.Answers.{ends, is_single, is_known, is_one}
 use Rattle.uz_range.specs.Containment.{IsWithin, MayBe, Admits, AdmitsAll}
 use Rattle.uz_range.specs.Rules.{low_answer, high_answer, bst_answer, pair_add_answer, pair_sub_answer}
 use Rattle.uz_range.proofs.PairsCover.{low_covers, high_covers, bst_covers, pair_add_covers, pair_sub_covers}
-use Rattle.uz_transfer.specs.Values.{exact_pair, byte_hull, flag_at, pair_range, each_flag, with_value, with_pair_value, with_flag_list}
-use Rattle.uz_transfer.specs.Values.{merged_flags, known_byte}
+use Rattle.uz_rules.specs.Values.{exact_pair, byte_hull, flag_at, pair_range, each_flag, with_value, with_pair_value, with_flag_list}
+use Rattle.uz_rules.specs.Values.{merged_flags, known_byte}
 use Rattle.uz_rules.specs.CoreMeets.{ValueHolds, FlagHolds, CoreMeets}
-use Rattle.uz_transfer.specs.Memory.{address_range, with_pointer_range, all_flags, is_old, flags_number, sreg_value, flags_from}
-use Rattle.uz_transfer.specs.Kinds.{is_main}
+use Rattle.uz_rules.specs.Memory.{address_range, with_pointer_range, all_flags, is_old, flags_number, sreg_value, flags_from}
+use Rattle.uz_rules.specs.Kinds.{is_main}
 use Rattle.uz_rules.proofs.CoreKeeps.{hull_holds, set_same, set_other, whole, pair_word, pair_holds, val_meets, range_meets, core_with}
 use Rattle.uz_core.proofs.SregBits.{or_kept, bit_of_merged}
 

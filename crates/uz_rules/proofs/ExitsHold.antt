@@ -9,17 +9,17 @@ use Rattle.std.proofs.lemmas.Bool.Decides.{eqb_tells, nat_tests}
 use Rattle.std.proofs.lemmas.List.Elements.{Contains-append_left, Contains-append_right}
 use Rattle.avr_table.specs.declared.Outcome.{Outcome}
 use Rattle.avr_table.specs.declared.Outcome.TheVariants.{Next, Taken, SkipOne, SkipTwo}
-use Rattle.uz_machine.specs.declared.SkipTest.{SkipTest}
-use Rattle.uz_machine.specs.declared.SkipTest.TheVariants.{Equal, RegisterBit, IoBit}
-use Rattle.uz_machine.specs.declared.JumpTarget.TheVariants.{Absolute, Relative, Indirect}
-use Rattle.uz_machine.specs.declared.Effect.{Effect}
-use Rattle.uz_machine.specs.declared.Effect.TheVariants.{NoOperation, Branch, SkipIf, Jump, Return}
-use Rattle.uz_machine.specs.Arithmetic.{bit_is_set}
-use Rattle.uz_machine.specs.Core.{Core, register, pair, following_pc, load_addresses, loaded_bytes, bit_equals, test_holds, outcome_of}
-use Rattle.uz_machine.specs.Core.{next_pc, skipped_words}
-use Rattle.uz_machine.specs.CoreRange.{IsCore}
-use Rattle.uz_machine.specs.OperandRanges.{SkipTestFits, EffectFits}
-use Rattle.uz_machine.specs.Space.{PadWiring, Space, plain_byte, space_loads}
+use Rattle.uz_core.specs.declared.machine.SkipTest.{SkipTest}
+use Rattle.uz_core.specs.declared.machine.SkipTest.TheVariants.{Equal, RegisterBit, IoBit}
+use Rattle.uz_core.specs.declared.machine.JumpTarget.TheVariants.{Absolute, Relative, Indirect}
+use Rattle.uz_core.specs.declared.machine.Effect.{Effect}
+use Rattle.uz_core.specs.declared.machine.Effect.TheVariants.{NoOperation, Branch, SkipIf, Jump, Return}
+use Rattle.uz_core.specs.Arithmetic.{bit_is_set}
+use Rattle.uz_core.specs.Core.{Core, register, pair, following_pc, load_addresses, loaded_bytes, bit_equals, test_holds, outcome_of}
+use Rattle.uz_core.specs.Core.{next_pc, skipped_words}
+use Rattle.uz_core.specs.CoreRange.{IsCore}
+use Rattle.uz_core.specs.OperandRanges.{SkipTestFits, EffectFits}
+use Rattle.uz_core.specs.Space.{PadWiring, Space, plain_byte, space_loads}
 use Rattle.uz_schedule.specs.Ends.{Ends}
 use Rattle.uz_schedule.specs.declared.facts.Bit.{Bit}
 use Rattle.uz_schedule.specs.declared.facts.Bit.TheVariants.{Zero, One, Free, Old as OldBit}
@@ -32,16 +32,16 @@ use Rattle.uz_range.specs.Containment.{IsWithin}
 use Rattle.uz_range.specs.Rules.{bst_answer}
 use Rattle.uz_range.proofs.ShapesCover.{only}
 use Rattle.uz_range.proofs.PairsCover.{bst_covers}
-use Rattle.uz_transfer.specs.Values.{span_of, value_at, pair_range}
+use Rattle.uz_rules.specs.Values.{span_of, value_at, pair_range}
 use Rattle.uz_rules.specs.CoreMeets.{ValueHolds, FlagHolds, CoreMeets}
-use Rattle.uz_transfer.specs.Kinds.{is_main}
-use Rattle.uz_transfer.specs.Memory.{depth_of, slot_value}
-use Rattle.uz_transfer.specs.Transfer.{bit_of_bool}
-use Rattle.uz_transfer.specs.Exits.{decided, flag_of_kind, are_equal, test_decides, choices, skip_outcome, outcomes, numbers_from, skipped}
-use Rattle.uz_transfer.specs.Exits.{targets}
-use Rattle.uz_transfer.specs.Refusals.{target_fails, is_known_slot, fail_of}
-use Rattle.uz_transfer.specs.Step.{exits_of}
-use Rattle.uz_machine.specs.Core.{returns_from_interrupt}
+use Rattle.uz_rules.specs.Kinds.{is_main}
+use Rattle.uz_rules.specs.Memory.{depth_of, slot_value}
+use Rattle.uz_rules.specs.Transfer.{bit_of_bool}
+use Rattle.uz_rules.specs.Exits.{decided, flag_of_kind, are_equal, test_decides, choices, skip_outcome, outcomes, numbers_from, skipped}
+use Rattle.uz_rules.specs.Exits.{targets}
+use Rattle.uz_rules.specs.Refusals.{target_fails, is_known_slot, fail_of}
+use Rattle.uz_rules.specs.Step.{exits_of}
+use Rattle.uz_core.specs.Core.{returns_from_interrupt}
 use Rattle.uz_rules.proofs.CoreKeeps.{in_span, register_byte, pair_holds}
 use Rattle.uz_rules.proofs.CoreSteps.{told}
 use Rattle.uz_rules.proofs.LoadClasses.{ram_loaded, slot_holds}

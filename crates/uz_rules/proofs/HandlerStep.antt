@@ -10,18 +10,18 @@ use Rattle.avr_table.specs.declared.Instr.TheVariants.{Nop}
 use Rattle.avr_table.specs.declared.Outcome.{Outcome}
 use Rattle.avr_table.specs.declared.Outcome.TheVariants.{Next, Taken, SkipOne, SkipTwo}
 use Rattle.avr_table.specs.Rows.{words_of, clocks_of}
-use Rattle.uz_machine.specs.declared.Effect.{Effect}
-use Rattle.uz_machine.specs.declared.Effect.TheVariants.{NoOperation, Store}
-use Rattle.uz_machine.specs.Arithmetic.{bit_is_set}
-use Rattle.uz_machine.specs.Effects.{effect_of}
-use Rattle.uz_machine.specs.Core.{Core, following_pc, load_addresses, sample_clock, loaded_bytes, content_after_loads, outcome_of}
-use Rattle.uz_machine.specs.Timer.{is_counting, matches_within, timer_after}
-use Rattle.uz_machine.specs.PadLine.{PadHistory}
-use Rattle.uz_machine.specs.Space.{history_wiring, space_after, space_loads}
-use Rattle.uz_machine.specs.Turn.{State}
-use Rattle.uz_machine.specs.StateRange.{IsState}
-use Rattle.uz_machine.specs.OperandRanges.{EffectFits}
-use Rattle.uz_machine.proofs.EffectRanges.{effect_fits}
+use Rattle.uz_core.specs.declared.machine.Effect.{Effect}
+use Rattle.uz_core.specs.declared.machine.Effect.TheVariants.{NoOperation, Store}
+use Rattle.uz_core.specs.Arithmetic.{bit_is_set}
+use Rattle.uz_core.specs.Effects.{effect_of}
+use Rattle.uz_core.specs.Core.{Core, following_pc, load_addresses, sample_clock, loaded_bytes, content_after_loads, outcome_of}
+use Rattle.uz_core.specs.Timer.{is_counting, matches_within, timer_after}
+use Rattle.uz_core.specs.PadLine.{PadHistory}
+use Rattle.uz_core.specs.Space.{history_wiring, space_after, space_loads}
+use Rattle.uz_core.specs.Turn.{State}
+use Rattle.uz_core.specs.StateRange.{IsState}
+use Rattle.uz_core.specs.OperandRanges.{EffectFits}
+use Rattle.uz_core.proofs.EffectRanges.{effect_fits}
 use Rattle.uz_range.specs.Containment.{IsWithin}
 use Rattle.uz_schedule.specs.Lines.{Lines, clock_after}
 use Rattle.uz_schedule.specs.declared.kinds.Kind.{Kind}
@@ -29,13 +29,13 @@ use Rattle.uz_schedule.specs.declared.kinds.Kind.TheVariants.{Handler}
 use Rattle.uz_schedule.specs.declared.header.Head.{Head}
 use Rattle.uz_schedule.specs.declared.lines.EventKind.{EventKind}
 use Rattle.uz_schedule.specs.declared.states.Instance.{Instance}
-use Rattle.uz_transfer.specs.declared.step.Exit.{Exit}
-use Rattle.uz_transfer.specs.Kinds.{is_main, is_handler}
-use Rattle.uz_transfer.specs.Refusals.{fail_of}
-use Rattle.uz_transfer.specs.Step.{clears_flag, ends_line, following_of, sampled_of, successor}
-use Rattle.uz_transfer.specs.Exits.{each_exit}
-use Rattle.uz_transfer.specs.InTime.{keeps_time, sets_ahead, is_in_time, clock_holds}
-use Rattle.uz_transfer.specs.Timer.{stores_top, top_after, temp_after}
+use Rattle.uz_rules.specs.declared.step.Exit.{Exit}
+use Rattle.uz_rules.specs.Kinds.{is_main, is_handler}
+use Rattle.uz_rules.specs.Refusals.{fail_of}
+use Rattle.uz_rules.specs.Step.{clears_flag, ends_line, following_of, sampled_of, successor}
+use Rattle.uz_rules.specs.Exits.{each_exit}
+use Rattle.uz_rules.specs.InTime.{keeps_time, sets_ahead, is_in_time, clock_holds}
+use Rattle.uz_rules.specs.Timer.{stores_top, top_after, temp_after}
 use Rattle.uz_rules.specs.Meets.{TimerMeets, TimerCounts, Meets}
 use Rattle.uz_rules.specs.OneStep.{HandlerContained}
 use Rattle.uz_rules.proofs.Classes.{Before}

@@ -3,14 +3,14 @@ use Rattle.std.proofs.Common.{◌≡◌, ◌≢◌, ◌⊎◌, inl, inr, ℕ, su
 use Rattle.std.proofs.Common.{nat_le, Some, None, List, [], ◌∷◌, filter, length, refl, ◌∙◌, ap, subst, arith}
 use Rattle.std.specs.Prelude.{◌&&◌, ◌||◌}
 use Rattle.std.proofs.lemmas.Bool.Decides.{nat_tests}
-use Rattle.uz_machine.specs.declared.AddressMode.{AddressMode}
-use Rattle.uz_machine.specs.declared.Effect.{Effect}
-use Rattle.uz_machine.specs.declared.Effect.TheVariants.{NoOperation, Store, PushByte, WriteIoBit, Jump}
-use Rattle.uz_machine.specs.declared.HeldStore.TheVariants.{Byte}
-use Rattle.uz_machine.specs.Core.{Core, register, is_core_address, effective_address, following_pc, stores_of, leaves_core}
-use Rattle.uz_machine.specs.OperandRanges.{EffectFits}
-use Rattle.uz_machine.specs.Space.{PadWiring, Space, after_byte}
-use Rattle.uz_machine.specs.Turn.{after_stores}
+use Rattle.uz_core.specs.declared.machine.AddressMode.{AddressMode}
+use Rattle.uz_core.specs.declared.machine.Effect.{Effect}
+use Rattle.uz_core.specs.declared.machine.Effect.TheVariants.{NoOperation, Store, PushByte, WriteIoBit, Jump}
+use Rattle.uz_core.specs.declared.machine.HeldStore.TheVariants.{Byte}
+use Rattle.uz_core.specs.Core.{Core, register, is_core_address, effective_address, following_pc, stores_of, leaves_core}
+use Rattle.uz_core.specs.OperandRanges.{EffectFits}
+use Rattle.uz_core.specs.Space.{PadWiring, Space, after_byte}
+use Rattle.uz_core.specs.Turn.{after_stores}
 use Rattle.uz_schedule.specs.Ends.{Ends}
 use Rattle.uz_schedule.specs.declared.kinds.Kind.{Kind}
 use Rattle.uz_schedule.specs.declared.facts.Val.{Val}
@@ -19,11 +19,11 @@ use Rattle.uz_schedule.specs.declared.states.Instance.{Instance}
 use Rattle.uz_range.specs.Answers.{is_single}
 use Rattle.uz_range.specs.Containment.{IsWithin}
 use Rattle.uz_range.proofs.ShapesCover.{only}
-use Rattle.uz_transfer.specs.Values.{span_of, value_at}
-use Rattle.uz_transfer.specs.Kinds.{cell_place, cell_range, depth_limit}
+use Rattle.uz_rules.specs.Values.{span_of, value_at}
+use Rattle.uz_rules.specs.Kinds.{cell_place, cell_range, depth_limit}
 use Rattle.uz_rules.specs.MemoryMeets.{HeadFits, Untouched}
-use Rattle.uz_transfer.specs.Memory.{address_range, depth_of}
-use Rattle.uz_transfer.specs.Refusals.{cell_admits, flag_fails, mask_fails, io_fails, may_store, fail_of}
+use Rattle.uz_rules.specs.Memory.{address_range, depth_of}
+use Rattle.uz_rules.specs.Refusals.{cell_admits, flag_fails, mask_fails, io_fails, may_store, fail_of}
 use Rattle.uz_rules.proofs.MemoryKeeps.{Wrote, missed}
 use Rattle.uz_rules.proofs.SpaceStores.{byte_wrote, bit_kept}
 use Rattle.uz_rules.proofs.StoreClasses.{cell_taken, free_by, room_left}

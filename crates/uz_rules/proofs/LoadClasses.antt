@@ -7,15 +7,15 @@ use Rattle.std.specs.FinMap.{FinMap}
 use Rattle.std.specs.List.{AllByRecursion}
 use Rattle.std.proofs.lemmas.Bool.Decides.{nat_tests}
 use Rattle.uz_hex.specs.Cells.{byte_or_255}
-use Rattle.uz_machine.specs.declared.AddressMode.{AddressMode}
-use Rattle.uz_machine.specs.declared.Effect.TheVariants.{Load, LoadProgram, PopByte}
-use Rattle.uz_machine.specs.Arithmetic.{bit_is_set}
-use Rattle.uz_machine.specs.Core.{Core, pair, with_register, with_pair, is_core_address, core_byte, effective_address, with_pointer_after}
-use Rattle.uz_machine.specs.Core.{loaded_bytes, content_after_loads, changed_core}
-use Rattle.uz_machine.specs.CoreRange.{IsByte, IsCore}
-use Rattle.uz_machine.specs.OperandRanges.{EffectFits}
-use Rattle.uz_machine.specs.Timer.{is_timer_address}
-use Rattle.uz_machine.specs.Space.{PadWiring, Space, is_pin, plain_byte, byte_at, space_after, space_loads}
+use Rattle.uz_core.specs.declared.machine.AddressMode.{AddressMode}
+use Rattle.uz_core.specs.declared.machine.Effect.TheVariants.{Load, LoadProgram, PopByte}
+use Rattle.uz_core.specs.Arithmetic.{bit_is_set}
+use Rattle.uz_core.specs.Core.{Core, pair, with_register, with_pair, is_core_address, core_byte, effective_address, with_pointer_after}
+use Rattle.uz_core.specs.Core.{loaded_bytes, content_after_loads, changed_core}
+use Rattle.uz_core.specs.CoreRange.{IsByte, IsCore}
+use Rattle.uz_core.specs.OperandRanges.{EffectFits}
+use Rattle.uz_core.specs.Timer.{is_timer_address}
+use Rattle.uz_core.specs.Space.{PadWiring, Space, is_pin, plain_byte, byte_at, space_after, space_loads}
 use Rattle.uz_schedule.specs.Ends.{Ends}
 use Rattle.uz_schedule.specs.declared.facts.Val.TheVariants.{Range}
 use Rattle.uz_schedule.specs.declared.header.Head.{Head}
@@ -24,13 +24,13 @@ use Rattle.uz_range.specs.Answers.{ends, is_single}
 use Rattle.uz_range.specs.Containment.{IsWithin}
 use Rattle.uz_range.specs.Rules.{pair_add_answer}
 use Rattle.uz_range.proofs.ShapesCover.{only}
-use Rattle.uz_transfer.specs.Values.{exact_pair, pair_range, with_value, with_pair_value, known_byte}
+use Rattle.uz_rules.specs.Values.{exact_pair, pair_range, with_value, with_pair_value, known_byte}
 use Rattle.uz_rules.specs.CoreMeets.{ValueHolds, CoreMeets}
-use Rattle.uz_transfer.specs.Kinds.{cell_place, cell_range, is_main, is_handler}
+use Rattle.uz_rules.specs.Kinds.{cell_place, cell_range, is_main, is_handler}
 use Rattle.uz_rules.specs.MemoryMeets.{StackHolds, MemoryMeets, HeadFits}
-use Rattle.uz_transfer.specs.Memory.{all_flags, is_old, sreg_value, address_range, with_pointer_range, cell_value, value_at_address}
-use Rattle.uz_transfer.specs.Memory.{loaded_value, flash_value, depth_of, slot_value}
-use Rattle.uz_transfer.specs.Transfer.{transfer}
+use Rattle.uz_rules.specs.Memory.{all_flags, is_old, sreg_value, address_range, with_pointer_range, cell_value, value_at_address}
+use Rattle.uz_rules.specs.Memory.{loaded_value, flash_value, depth_of, slot_value}
+use Rattle.uz_rules.specs.Transfer.{transfer}
 use Rattle.uz_rules.proofs.CoreKeeps.{whole, pair_word, pair_holds, val_meets}
 use Rattle.uz_rules.proofs.MemoryKeeps.{HasRange, tracked_has_range}
 use Rattle.uz_rules.proofs.SpaceStores.{choose_if, pin_low, timer_low}

@@ -8,19 +8,19 @@ use Rattle.std.specs.List.{AllByRecursion}
 use Rattle.std.proofs.lemmas.List.{length-set}
 use Rattle.std.specs.FinMap.{FinMap}
 use Rattle.std.proofs.lemmas.Bool.Decides.{eqb_tells, nat_tests}
-use Rattle.uz_machine.specs.declared.Operand.{Operand}
-use Rattle.uz_machine.specs.declared.Operand.TheVariants.{Register, Constant}
-use Rattle.uz_machine.specs.declared.BinaryOp.{BinaryOp}
-use Rattle.uz_machine.specs.declared.BinaryOp.TheVariants as binary
-use Rattle.uz_machine.specs.declared.UnaryOp.{UnaryOp}
-use Rattle.uz_machine.specs.declared.UnaryOp.TheVariants as unary
-use Rattle.uz_machine.specs.declared.Effect.TheVariants.{CopyByte, Binary, Unary, AddToPair, Multiply}
-use Rattle.uz_machine.specs.Arithmetic.{AluResult, bit_is_set, with_bit, chained_result, and_of, or_of, product_of}
-use Rattle.uz_machine.specs.Core.{Core, register, pair, with_register, with_pair, with_sreg, with_flags, operand_value, binary_result}
-use Rattle.uz_machine.specs.Core.{unary_result, add_to_pair_result, changed_core}
-use Rattle.uz_machine.specs.CoreRange.{IsByte, IsCore}
-use Rattle.uz_machine.specs.OperandRanges.{OperandFits, EffectFits}
-use Rattle.uz_machine.proofs.ByteLists.{byte_at}
+use Rattle.uz_core.specs.declared.machine.Operand.{Operand}
+use Rattle.uz_core.specs.declared.machine.Operand.TheVariants.{Register, Constant}
+use Rattle.uz_core.specs.declared.machine.BinaryOp.{BinaryOp}
+use Rattle.uz_core.specs.declared.machine.BinaryOp.TheVariants as binary
+use Rattle.uz_core.specs.declared.machine.UnaryOp.{UnaryOp}
+use Rattle.uz_core.specs.declared.machine.UnaryOp.TheVariants as unary
+use Rattle.uz_core.specs.declared.machine.Effect.TheVariants.{CopyByte, Binary, Unary, AddToPair, Multiply}
+use Rattle.uz_core.specs.Arithmetic.{AluResult, bit_is_set, with_bit, chained_result, and_of, or_of, product_of}
+use Rattle.uz_core.specs.Core.{Core, register, pair, with_register, with_pair, with_sreg, with_flags, operand_value, binary_result}
+use Rattle.uz_core.specs.Core.{unary_result, add_to_pair_result, changed_core}
+use Rattle.uz_core.specs.CoreRange.{IsByte, IsCore}
+use Rattle.uz_core.specs.OperandRanges.{OperandFits, EffectFits}
+use Rattle.uz_core.proofs.ByteLists.{byte_at}
 use Rattle.uz_schedule.specs.Ends.{Ends}
 use Rattle.uz_schedule.specs.declared.facts.Bit.{Bit}
 use Rattle.uz_schedule.specs.declared.facts.Bit.TheVariants.{Zero, Free}
@@ -38,13 +38,13 @@ use Rattle.uz_range.proofs.ChainedCovers.{chained_covers}
 use Rattle.uz_range.proofs.ItselfCovers.{same_and_covers, same_xor_covers, same_sub_covers}
 use Rattle.uz_range.proofs.PairsCover.{swap_covers, pair_add_covers, pair_sub_covers, bst_covers, bld_covers}
 use Rattle.uz_range.proofs.ProductsCover.{product_covers}
-use Rattle.uz_transfer.specs.Values.{exact_pair, span_of, value_at, flag_at, pair_range, with_value, with_pair_range, with_pair_value}
-use Rattle.uz_transfer.specs.Values.{with_flag_list, merged_flags}
+use Rattle.uz_rules.specs.Values.{exact_pair, span_of, value_at, flag_at, pair_range, with_value, with_pair_range, with_pair_value}
+use Rattle.uz_rules.specs.Values.{with_flag_list, merged_flags}
 use Rattle.uz_rules.specs.CoreMeets.{ValueHolds, FlagHolds, CoreMeets}
-use Rattle.uz_transfer.specs.Arithmetic.{known_operand, binary_answer, same_register_answer, is_same_register, operation_answer}
-use Rattle.uz_transfer.specs.Arithmetic.{is_self_copy, operation_value, binary_keeps, unary_answer, unary_keeps, pair_keeps, factors_answer}
-use Rattle.uz_transfer.specs.Arithmetic.{product_keeps}
-use Rattle.uz_transfer.specs.Transfer.{bit_of_bool, with_flag, transfer}
+use Rattle.uz_rules.specs.Arithmetic.{known_operand, binary_answer, same_register_answer, is_same_register, operation_answer}
+use Rattle.uz_rules.specs.Arithmetic.{is_self_copy, operation_value, binary_keeps, unary_answer, unary_keeps, pair_keeps, factors_answer}
+use Rattle.uz_rules.specs.Arithmetic.{product_keeps}
+use Rattle.uz_rules.specs.Transfer.{bit_of_bool, with_flag, transfer}
 use Rattle.uz_rules.proofs.CoreKeeps.{set_same, or_other, or_same, in_span, register_byte, pair_word, pair_holds, val_meets, range_meets}
 use Rattle.uz_rules.proofs.CoreKeeps.{core_with}
 use Rattle.uz_core.proofs.SregBits.{bit_of_with_bit}

@@ -5,12 +5,12 @@ use Rattle.uz_hex.specs.Cells.{word_of}
 use Rattle.avr_table.specs.declared.Instr.TheVariants.{Nop}
 use Rattle.avr_table.specs.Pattern.{stands}
 use Rattle.avr_table.specs.Rows.{Reads, words_of, clocks_of}
-use Rattle.uz_machine.specs.Effects.{effect_of}
-use Rattle.uz_machine.proofs.StateKept.{reset_is_state}
+use Rattle.uz_core.specs.Effects.{effect_of}
+use Rattle.uz_core.proofs.StateKept.{reset_is_state}
 use Rattle.uz_schedule.specs.declared.facts.Bit.TheVariants.{Free}
 use Rattle.uz_schedule.specs.declared.facts.Val.TheVariants.{Range}
 use Rattle.uz_range.specs.Answers.{ends}
-use Rattle.uz_transfer.specs.Values.{value_at}
+use Rattle.uz_rules.specs.Values.{value_at}
 use Rattle.uz_schedule.specs.Blank.{blank_instance}
 use Rattle.uz_rules.specs.Example.{example_head, SomeInstructionBegins}
 use Rattle.uz_rules.proofs.CoreSteps.{seven_at}

@@ -4,11 +4,11 @@ use Rattle.std.proofs.Common.{◌∙◌, ap, arith}
 use Rattle.std.specs.Prelude.{slice_index, bit_xor}
 use Rattle.std.proofs.lemmas.Bool.Decides.{nat_tests}
 use Rattle.std.proofs.lemmas.Nat.Bits.{bit_at_lowest, bit_at_xor}
-use Rattle.uz_machine.specs.declared.HeldStore.TheVariants.{Bit}
-use Rattle.uz_machine.specs.Arithmetic.{with_bit}
-use Rattle.uz_machine.specs.Timer.{is_timer_address}
-use Rattle.uz_machine.specs.Space.{PadWiring, Space, is_pin, byte_at, after_byte, after_store, takes_one_bit}
-use Rattle.uz_machine.specs.Turn.{sync_level}
+use Rattle.uz_core.specs.declared.machine.HeldStore.TheVariants.{Bit}
+use Rattle.uz_core.specs.Arithmetic.{with_bit}
+use Rattle.uz_core.specs.Timer.{is_timer_address}
+use Rattle.uz_core.specs.Space.{PadWiring, Space, is_pin, byte_at, after_byte, after_store, takes_one_bit}
+use Rattle.uz_core.specs.Turn.{sync_level}
 use Rattle.uz_rules.proofs.CoreKeeps.{set_same, set_other}
 use Rattle.uz_rules.proofs.MemoryKeeps.{Wrote}
 

@@ -9,14 +9,14 @@ use Rattle.std.proofs.lemmas.List.{append-nil}
 use Rattle.std.proofs.lemmas.List.Elements.{filter_map-append}
 use Rattle.std.proofs.lemmas.Nat.Bits.{bit_at_above}
 use Rattle.std.specs.Int.{bit_at}
-use Rattle.uz_machine.specs.declared.HeldStore.{HeldStore}
-use Rattle.uz_machine.specs.declared.HeldStore.TheVariants.{Byte, Bit as BitCall}
-use Rattle.uz_machine.specs.declared.EdgeKind.{EdgeKind}
-use Rattle.uz_machine.specs.Arithmetic.{bit_is_set}
-use Rattle.uz_machine.specs.Core.{Core, is_core_address, with_store, leaves_core}
-use Rattle.uz_machine.specs.CoreRange.{IsCore}
-use Rattle.uz_machine.specs.Space.{PadWiring, Space, after_byte, after_store}
-use Rattle.uz_machine.specs.Turn.{sync_level, edge_kinds, after_stores, all_edge_kinds}
+use Rattle.uz_core.specs.declared.machine.HeldStore.{HeldStore}
+use Rattle.uz_core.specs.declared.machine.HeldStore.TheVariants.{Byte, Bit as BitCall}
+use Rattle.uz_core.specs.declared.machine.EdgeKind.{EdgeKind}
+use Rattle.uz_core.specs.Arithmetic.{bit_is_set}
+use Rattle.uz_core.specs.Core.{Core, is_core_address, with_store, leaves_core}
+use Rattle.uz_core.specs.CoreRange.{IsCore}
+use Rattle.uz_core.specs.Space.{PadWiring, Space, after_byte, after_store}
+use Rattle.uz_core.specs.Turn.{sync_level, edge_kinds, after_stores, all_edge_kinds}
 use Rattle.uz_schedule.specs.Ends.{Ends}
 use Rattle.uz_schedule.specs.declared.kinds.Kind.{Kind}
 use Rattle.uz_schedule.specs.declared.kinds.Kind.TheVariants.{Main, Handler, Alone}
@@ -32,14 +32,14 @@ use Rattle.uz_range.specs.Containment.{IsWithin, Admits}
 use Rattle.uz_range.proofs.ShapesCover.{only}
 use Rattle.uz_range.specs.Rules.{bst_answer}
 use Rattle.uz_range.proofs.PairsCover.{bst_covers}
-use Rattle.uz_transfer.specs.Values.{span_of, with_flag_list, known_byte}
+use Rattle.uz_rules.specs.Values.{span_of, with_flag_list, known_byte}
 use Rattle.uz_rules.specs.CoreMeets.{ValueHolds, CoreMeets}
-use Rattle.uz_transfer.specs.Kinds.{cell_place, cell_range, misses, depth_limit, is_main}
+use Rattle.uz_rules.specs.Kinds.{cell_place, cell_range, misses, depth_limit, is_main}
 use Rattle.uz_rules.specs.MemoryMeets.{depth_below, MemoryMeets, HeadFits}
-use Rattle.uz_transfer.specs.Memory.{flags_from, with_cell, with_stored, stored_in, with_slots}
-use Rattle.uz_transfer.specs.Transfer.{pc_values}
-use Rattle.uz_transfer.specs.Emission.{byte_event, bit_event, level_after}
-use Rattle.uz_transfer.specs.Refusals.{is_setup_register, stored_bit, flag_is, cell_admits, may_store, mask_fails}
+use Rattle.uz_rules.specs.Memory.{flags_from, with_cell, with_stored, stored_in, with_slots}
+use Rattle.uz_rules.specs.Transfer.{pc_values}
+use Rattle.uz_rules.specs.Emission.{byte_event, bit_event, level_after}
+use Rattle.uz_rules.specs.Refusals.{is_setup_register, stored_bit, flag_is, cell_admits, may_store, mask_fails}
 use Rattle.uz_rules.specs.Events.{event_of}
 use Rattle.uz_rules.specs.OneStep.{IsNoEntry}
 use Rattle.uz_rules.proofs.CoreKeeps.{in_span}

@@ -5,12 +5,12 @@ use Rattle.std.specs.Prelude.{◌||◌, ◌&&◌, ◌==◌}
 use Rattle.std.specs.List.{filter_map, AllByRecursion}
 use Rattle.std.proofs.lemmas.Bool.Decides.{eqb_tells, nat_tests}
 use Rattle.std.proofs.lemmas.Nat.Bits.{bit_at_lowest}
-use Rattle.uz_machine.specs.declared.HeldStore.TheVariants.{Byte, Bit as BitCall}
-use Rattle.uz_machine.specs.declared.EdgeKind.{EdgeKind}
-use Rattle.uz_machine.specs.declared.EdgeKind.TheVariants.{Sync as SyncEdge, Pixel as PixelEdge, Sound as SoundEdge}
-use Rattle.uz_machine.specs.Arithmetic.{bit_is_set, with_bit}
-use Rattle.uz_machine.specs.Space.{PadWiring, Space, plain_byte, byte_at, after_byte, after_store, takes_one_bit, is_store}
-use Rattle.uz_machine.specs.Turn.{sync_level, edge_kinds}
+use Rattle.uz_core.specs.declared.machine.HeldStore.TheVariants.{Byte, Bit as BitCall}
+use Rattle.uz_core.specs.declared.machine.EdgeKind.{EdgeKind}
+use Rattle.uz_core.specs.declared.machine.EdgeKind.TheVariants.{Sync as SyncEdge, Pixel as PixelEdge, Sound as SoundEdge}
+use Rattle.uz_core.specs.Arithmetic.{bit_is_set, with_bit}
+use Rattle.uz_core.specs.Space.{PadWiring, Space, plain_byte, byte_at, after_byte, after_store, takes_one_bit, is_store}
+use Rattle.uz_core.specs.Turn.{sync_level, edge_kinds}
 use Rattle.uz_schedule.specs.declared.facts.Bit.{Bit}
 use Rattle.uz_schedule.specs.declared.facts.Bit.TheVariants.{Zero, One, Free, Old as OldBit}
 use Rattle.uz_schedule.specs.declared.facts.Val.{Val}
@@ -19,9 +19,9 @@ use Rattle.uz_schedule.specs.declared.lines.EventKind.TheVariants.{Sync, Pixel, 
 use Rattle.uz_range.specs.Containment.{IsWithin, Admits}
 use Rattle.uz_range.specs.Rules.{bst_answer}
 use Rattle.uz_range.proofs.PairsCover.{bst_covers}
-use Rattle.uz_transfer.specs.Values.{span_of}
-use Rattle.uz_transfer.specs.Emission.{level_event, toggle_event, byte_event, bit_event, level_after}
-use Rattle.uz_transfer.specs.Transfer.{bit_of_bool}
+use Rattle.uz_rules.specs.Values.{span_of}
+use Rattle.uz_rules.specs.Emission.{level_event, toggle_event, byte_event, bit_event, level_after}
+use Rattle.uz_rules.specs.Transfer.{bit_of_bool}
 use Rattle.uz_rules.specs.Events.{event_of}
 use Rattle.uz_rules.specs.OneStep.{IsNoEntry}
 use Rattle.uz_rules.proofs.SpaceStores.{level_other, level_stored, level_toggled}

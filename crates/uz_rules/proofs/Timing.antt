@@ -6,16 +6,16 @@ use Rattle.std.proofs.lemmas.Bool.Decides.{eqb_tells, nat_tests}
 use Rattle.std.proofs.lemmas.Nat.Bits.{bit_at-pow_other}
 use Rattle.std.specs.Int.{bit_at}
 use Rattle.std.proofs.Math.Nat.{mod-eq_of_lt, mod-eq-sub-mod, mod-lt}
-use Rattle.uz_machine.specs.declared.Effect.{Effect}
-use Rattle.uz_machine.specs.declared.Effect.TheVariants.{NoOperation, Store, PushByte, WriteIoBit, Jump}
-use Rattle.uz_machine.specs.declared.HeldStore.TheVariants.{Byte, Bit as BitCall}
-use Rattle.uz_machine.specs.Arithmetic.{bit_is_set, with_bit}
-use Rattle.uz_machine.specs.Core.{Core, register, is_core_address, effective_address, following_pc, content_after_loads, stores_of}
-use Rattle.uz_machine.specs.Core.{leaves_core}
-use Rattle.uz_machine.specs.OperandRanges.{EffectFits}
-use Rattle.uz_machine.specs.Timer.{Timer, is_counting, count_after, matches_within, timer_after, is_timer_address}
-use Rattle.uz_machine.specs.Space.{PadWiring, Space, is_pin, byte_at, after_byte, after_store, takes_one_bit, space_loads}
-use Rattle.uz_machine.specs.Turn.{after_stores}
+use Rattle.uz_core.specs.declared.machine.Effect.{Effect}
+use Rattle.uz_core.specs.declared.machine.Effect.TheVariants.{NoOperation, Store, PushByte, WriteIoBit, Jump}
+use Rattle.uz_core.specs.declared.machine.HeldStore.TheVariants.{Byte, Bit as BitCall}
+use Rattle.uz_core.specs.Arithmetic.{bit_is_set, with_bit}
+use Rattle.uz_core.specs.Core.{Core, register, is_core_address, effective_address, following_pc, content_after_loads, stores_of}
+use Rattle.uz_core.specs.Core.{leaves_core}
+use Rattle.uz_core.specs.OperandRanges.{EffectFits}
+use Rattle.uz_core.specs.Timer.{Timer, is_counting, count_after, matches_within, timer_after, is_timer_address}
+use Rattle.uz_core.specs.Space.{PadWiring, Space, is_pin, byte_at, after_byte, after_store, takes_one_bit, space_loads}
+use Rattle.uz_core.specs.Turn.{after_stores}
 use Rattle.uz_schedule.specs.Ends.{Ends}
 use Rattle.uz_schedule.specs.declared.kinds.Kind.{Kind}
 use Rattle.uz_schedule.specs.declared.facts.Bit.{Bit}
@@ -29,12 +29,12 @@ use Rattle.uz_range.specs.Containment.{IsWithin, Admits}
 use Rattle.uz_range.specs.Rules.{bst_answer}
 use Rattle.uz_range.proofs.ShapesCover.{only}
 use Rattle.uz_range.proofs.PairsCover.{bst_covers}
-use Rattle.uz_transfer.specs.Values.{value_at}
+use Rattle.uz_rules.specs.Values.{value_at}
 use Rattle.uz_rules.specs.CoreMeets.{ValueHolds}
-use Rattle.uz_transfer.specs.Kinds.{depth_limit, is_main, is_handler}
-use Rattle.uz_transfer.specs.Memory.{address_range, depth_of}
-use Rattle.uz_transfer.specs.Refusals.{is_setup_register, stored_bit, flag_is, flag_fails, may_store, fail_of}
-use Rattle.uz_transfer.specs.Step.{clears_flag}
+use Rattle.uz_rules.specs.Kinds.{depth_limit, is_main, is_handler}
+use Rattle.uz_rules.specs.Memory.{address_range, depth_of}
+use Rattle.uz_rules.specs.Refusals.{is_setup_register, stored_bit, flag_is, flag_fails, may_store, fail_of}
+use Rattle.uz_rules.specs.Step.{clears_flag}
 use Rattle.uz_rules.proofs.SpaceStores.{choose_if}
 use Rattle.uz_rules.proofs.StoreClasses.{SetsNothingElse, free_by, room_left}
 use Rattle.uz_rules.proofs.CoreSteps.{address_holds}

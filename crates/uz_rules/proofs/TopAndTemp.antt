@@ -3,25 +3,25 @@ use Rattle.std.proofs.Common.{◌≡◌, ℕ, ◌+◌, ◌*◌, ◌/◌, ◌%◌
 use Rattle.std.proofs.Common.{None, refl, sym, ◌∙◌, ap, subst, arith}
 use Rattle.std.specs.Prelude.{◌&&◌}
 use Rattle.std.proofs.lemmas.Bool.Decides.{nat_tests}
-use Rattle.uz_machine.specs.declared.AddressMode.{AddressMode}
-use Rattle.uz_machine.specs.declared.Effect.{Effect}
-use Rattle.uz_machine.specs.declared.Effect.TheVariants.{NoOperation, Load, Store, PopByte, Return, SkipIf}
-use Rattle.uz_machine.specs.declared.SkipTest.TheVariants.{Equal, RegisterBit, IoBit}
-use Rattle.uz_machine.specs.Core.{Core, register, is_core_address, effective_address, load_addresses, content_after_loads}
-use Rattle.uz_machine.specs.OperandRanges.{EffectFits}
-use Rattle.uz_machine.specs.Timer.{Timer, timer_after}
-use Rattle.uz_machine.specs.Space.{PadWiring, Space, space_loads}
+use Rattle.uz_core.specs.declared.machine.AddressMode.{AddressMode}
+use Rattle.uz_core.specs.declared.machine.Effect.{Effect}
+use Rattle.uz_core.specs.declared.machine.Effect.TheVariants.{NoOperation, Load, Store, PopByte, Return, SkipIf}
+use Rattle.uz_core.specs.declared.machine.SkipTest.TheVariants.{Equal, RegisterBit, IoBit}
+use Rattle.uz_core.specs.Core.{Core, register, is_core_address, effective_address, load_addresses, content_after_loads}
+use Rattle.uz_core.specs.OperandRanges.{EffectFits}
+use Rattle.uz_core.specs.Timer.{Timer, timer_after}
+use Rattle.uz_core.specs.Space.{PadWiring, Space, space_loads}
 use Rattle.uz_schedule.specs.Ends.{Ends}
 use Rattle.uz_schedule.specs.declared.header.Head.{Head}
 use Rattle.uz_schedule.specs.declared.states.Instance.{Instance}
 use Rattle.uz_range.specs.Answers.{is_single}
 use Rattle.uz_range.specs.Containment.{IsWithin}
 use Rattle.uz_range.proofs.ShapesCover.{only}
-use Rattle.uz_transfer.specs.Values.{span_of, value_at}
-use Rattle.uz_transfer.specs.Kinds.{is_handler}
-use Rattle.uz_transfer.specs.Memory.{address_range}
-use Rattle.uz_transfer.specs.Refusals.{fail_of}
-use Rattle.uz_transfer.specs.Timer.{top_after, temp_loaded, temp_after}
+use Rattle.uz_rules.specs.Values.{span_of, value_at}
+use Rattle.uz_rules.specs.Kinds.{is_handler}
+use Rattle.uz_rules.specs.Memory.{address_range}
+use Rattle.uz_rules.specs.Refusals.{fail_of}
+use Rattle.uz_rules.specs.Timer.{top_after, temp_loaded, temp_after}
 use Rattle.uz_rules.proofs.CoreKeeps.{in_span, register_byte}
 use Rattle.uz_rules.proofs.CoreSteps.{address_holds}
 use Rattle.uz_rules.proofs.LoadClasses.{ram_not_core}

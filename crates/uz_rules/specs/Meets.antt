@@ -5,14 +5,14 @@ use Rattle.uz_schedule.specs.declared.header.Head.{Head}
 use Rattle.uz_schedule.specs.declared.kinds.Kind.{Kind}
 use Rattle.uz_schedule.specs.declared.kinds.Kind.TheVariants.{Alone, Handler, Main}
 use Rattle.uz_schedule.specs.declared.states.Instance.{Instance}
-use Rattle.uz_machine.specs.Arithmetic.{bit_is_set}
-use Rattle.uz_machine.specs.Core.{Core}
-use Rattle.uz_machine.specs.PadLine.{PadHistory}
-use Rattle.uz_machine.specs.Timer.{Timer, is_counting}
-use Rattle.uz_machine.specs.Turn.{State, sync_level}
+use Rattle.uz_core.specs.Arithmetic.{bit_is_set}
+use Rattle.uz_core.specs.Core.{Core}
+use Rattle.uz_core.specs.PadLine.{PadHistory}
+use Rattle.uz_core.specs.Timer.{Timer, is_counting}
+use Rattle.uz_core.specs.Turn.{State, sync_level}
 use Rattle.uz_range.specs.Containment.{IsWithin}
-use Rattle.uz_transfer.specs.Kinds.{depth_limit, is_main}
-use Rattle.uz_transfer.specs.Memory.{all_flags, is_old, depth_of}
+use Rattle.uz_rules.specs.Kinds.{depth_limit, is_main}
+use Rattle.uz_rules.specs.Memory.{all_flags, is_old, depth_of}
 use Rattle.uz_rules.specs.CoreMeets.{CoreMeets}
 use Rattle.uz_rules.specs.MemoryMeets.{MemoryMeets}
 

@@ -10,25 +10,25 @@ use Rattle.uz_schedule.specs.declared.kinds.Kind.{Kind}
 use Rattle.uz_schedule.specs.declared.kinds.Kind.TheVariants.{Alone, Handler, Main}
 use Rattle.uz_schedule.specs.declared.states.Instance.{Instance}
 use Rattle.uz_hex.specs.Cells.{word_of}
-use Rattle.uz_machine.specs.Core.{Core}
-use Rattle.uz_machine.specs.Effects.{effect_of}
-use Rattle.uz_machine.specs.PadLine.{PadHistory}
-use Rattle.uz_machine.specs.Space.{history_wiring}
-use Rattle.uz_machine.specs.StateRange.{IsState}
-use Rattle.uz_machine.specs.Timer.{count_after, matches_within}
-use Rattle.uz_machine.specs.Turn.{State, Turn, is_entry, sync_level}
-use Rattle.uz_machine.specs.declared.Edge.{Edge}
-use Rattle.uz_transfer.specs.declared.step.Exit.{Exit}
-use Rattle.uz_transfer.specs.declared.step.Step.{Step}
-use Rattle.uz_transfer.specs.Memory.{depth_of}
-use Rattle.uz_transfer.specs.Emission.{main_emits}
-use Rattle.uz_transfer.specs.Kinds.{is_main, is_handler}
+use Rattle.uz_core.specs.Core.{Core}
+use Rattle.uz_core.specs.Effects.{effect_of}
+use Rattle.uz_core.specs.PadLine.{PadHistory}
+use Rattle.uz_core.specs.Space.{history_wiring}
+use Rattle.uz_core.specs.StateRange.{IsState}
+use Rattle.uz_core.specs.Timer.{count_after, matches_within}
+use Rattle.uz_core.specs.Turn.{State, Turn, is_entry, sync_level}
+use Rattle.uz_core.specs.declared.machine.Edge.{Edge}
+use Rattle.uz_rules.specs.declared.step.Exit.{Exit}
+use Rattle.uz_rules.specs.declared.step.Step.{Step}
+use Rattle.uz_rules.specs.Memory.{depth_of}
+use Rattle.uz_rules.specs.Emission.{main_emits}
+use Rattle.uz_rules.specs.Kinds.{is_main, is_handler}
 use Rattle.uz_schedule.specs.Lines.{Lines}
-use Rattle.uz_transfer.specs.Step.{successor, IsStep}
+use Rattle.uz_rules.specs.Step.{successor, IsStep}
 use Rattle.uz_rules.specs.MemoryMeets.{Untouched, HeadFits}
 use Rattle.uz_rules.specs.Events.{shown_at, shown, listed}
-use Rattle.uz_machine.specs.declared.EdgeKind.{EdgeKind}
-use Rattle.uz_machine.specs.declared.EdgeKind.TheVariants.{Sync, Pixel, Sound, Enter, Leave}
+use Rattle.uz_core.specs.declared.machine.EdgeKind.{EdgeKind}
+use Rattle.uz_core.specs.declared.machine.EdgeKind.TheVariants.{Sync, Pixel, Sound, Enter, Leave}
 use Rattle.uz_rules.specs.Meets.{Meets, InstanceFits}
 
 -- in main sync and OCR1A stay, and TCNT1 and OCF1A go on by the clocks alone

@@ -3,7 +3,7 @@
 ghost use Rattle.std.specs.Prelude.{◌≡◌};
 ghost use Rattle.uz_rules.specs.Events.{event_of};
 
-use uz_machine::EdgeKind;
+use uz_core::EdgeKind;
 use uz_schedule::EventKind;
 
 /// The event that an edge is: sync with its level, a pixel, a sound or a leave without its value. An interrupt that is

@@ -1,15 +1,15 @@
 //! The local rule: why an instance of a point is refused.
 
 ghost use Rattle.std.specs.Prelude.{◌≡◌, ◌<◌, Ok, Some, length, slice_get};
-ghost use Rattle.uz_machine.specs.Effects.{effect_of};
-ghost use Rattle.uz_machine.specs.OperandRanges.{EffectFits};
+ghost use Rattle.uz_core.specs.Effects.{effect_of};
+ghost use Rattle.uz_core.specs.OperandRanges.{EffectFits};
 ghost use Rattle.uz_schedule.specs.WellFormed.{WellFormed};
 ghost use Rattle.uz_schedule.specs.Lines.{order_of};
-ghost use Rattle.uz_transfer.specs.Step.{IsReadAt, at_exit};
+ghost use Rattle.uz_rules.specs.Step.{IsReadAt, at_exit};
 ghost use Rattle.uz_rules.specs.EdgeRule.{each_exit};
 ghost use Rattle.uz_rules.specs.Successors.{lies_in_any};
-ghost use Rattle.uz_transfer.specs.Kinds.{is_main};
-ghost use Rattle.uz_transfer.specs.Refusals.{refuse_if};
+ghost use Rattle.uz_rules.specs.Kinds.{is_main};
+ghost use Rattle.uz_rules.specs.Refusals.{refuse_if};
 ghost use Rattle.uz_rules.specs.Limits.{InstanceLimits};
 ghost use Rattle.uz_rules.specs.Local.{is_stop, rest_in, return_fail, first_exit, end_of, has_successors, result_fail};
 ghost use Rattle.uz_rules.specs.Local.{compares_edges, step_fail, instance_fail, IsLocal, reason, counted};
@@ -18,12 +18,12 @@ use crate::edge_rule::edges_fit;
 use crate::inclusion::{cells_inside, restored};
 use crate::successors::lies_in_any;
 use crate::visit::Visit;
+use crate::{Exit, Fail, Step, main_emits, put_at, put_step, word_after};
 use avr_decode::decode;
 use avr_table::Instr;
+use uz_core::Effect;
 use uz_hex::Image;
-use uz_machine::Effect;
 use uz_schedule::{Cert, EventKind, Instance, Kind, Point, Rest};
-use uz_transfer::{Exit, Fail, Step, main_emits, put_at, put_step, word_after};
 
 /// The reason, where it stands, else the later one.
 fn refuse_if(stands: bool, why: Fail, later: Option<Fail>) -> Option<Fail>

@@ -4,7 +4,7 @@ use Rattle.std.proofs.Common.{refl, sym, ap, subst, ◌∙◌, leb, lit≤, arit
 use Rattle.std.proofs.lemmas.Bool.{false≢true}
 use Rattle.std.specs.Prelude.{unwrap_or}
 use Rattle.std.proofs.lemmas.Bool.Decides.{nat_tests}
-use Rattle.uz_machine.specs.declared.Edge.{Edge}
+use Rattle.uz_core.specs.declared.machine.Edge.{Edge}
 use Rattle.uz_scan.specs.Lines.{is_high, is_fall, is_rise, last_clock, line_start, before_line, low_time, is_broad}
 use Rattle.uz_scan.specs.Pictures.{frames, begins_frame}
 use Rattle.uz_scan.specs.Scanning.{IsInOrder, broad}

@@ -5,7 +5,7 @@ use Rattle.std.specs.Prelude.{unwrap_or, nat_le, nat_lt}
 use Rattle.std.proofs.lemmas.Bool.{cases_lt}
 use Rattle.std.proofs.lemmas.List.FromFn.{fill_by_all}
 use Rattle.std.proofs.lemmas.Bool.Decides.{nat_tests}
-use Rattle.uz_machine.specs.declared.Edge.{Edge}
+use Rattle.uz_core.specs.declared.machine.Edge.{Edge}
 use Rattle.uz_scan.specs.declared.sampler.Sampler.{Sampler}
 use Rattle.uz_scan.specs.Lines.{last_clock}
 use Rattle.uz_scan.specs.Pictures.{pixel_brought, pixel_at, sample, row_of}

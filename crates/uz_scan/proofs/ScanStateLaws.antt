@@ -1,7 +1,7 @@
 -- A scanner that is made anew of what one knew stands for the same edges.
 use Rattle.std.proofs.Common.{◌≡◌, ℕ, ◌+◌, ◌*◌, ◌≤◌, ◌<◌, Option, List, slice_index, refl, sym, ◌∙◌, ap, subst}
 use Rattle.std.specs.Prelude.{Some, None}
-use Rattle.uz_machine.specs.declared.Edge.{Edge}
+use Rattle.uz_core.specs.declared.machine.Edge.{Edge}
 use Rattle.uz_scan.specs.declared.scanner.Scanner.{Scanner}
 use Rattle.uz_scan.specs.declared.sampler.Sampler.{Sampler}
 use Rattle.uz_scan.specs.declared.states.ScanState.{ScanState}

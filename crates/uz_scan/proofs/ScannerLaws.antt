@@ -2,7 +2,7 @@
 use Rattle.std.proofs.Common.{◌≡◌, ℕ, ◌^◌, ◌≤◌, ◌<◌, Bool, true, false, not, ◌&&◌, ◌==◌, cond, List, ◌∷◌, Option, Some, None, refl, sym, ap}
 use Rattle.std.proofs.Common.{subst, ◌∙◌, arith}
 use Rattle.std.specs.Prelude.{is_some, unwrap_or}
-use Rattle.uz_machine.specs.declared.Edge.{Edge}
+use Rattle.uz_core.specs.declared.machine.Edge.{Edge}
 use Rattle.uz_scan.specs.declared.records.FrameInfo.{FrameInfo}
 use Rattle.uz_scan.specs.declared.scanner.Scan.{Scan}
 use Rattle.uz_scan.specs.declared.scanner.Scan.TheVariants.{More, Line, Frame}

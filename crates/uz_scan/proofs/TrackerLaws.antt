@@ -4,8 +4,8 @@ use Rattle.std.proofs.Common.{refl, sym, ap, ◌∙◌}
 use Rattle.std.specs.Prelude.{nat_lt, is_some, unwrap_or}
 use Rattle.std.specs.Option.{option_map}
 use Rattle.std.proofs.Math.Nat.{mod-add-mod, mod-eq_of_lt}
-use Rattle.uz_machine.specs.declared.Edge.{Edge}
-use Rattle.uz_machine.specs.declared.EdgeKind.TheVariants.{Sync}
+use Rattle.uz_core.specs.declared.machine.Edge.{Edge}
+use Rattle.uz_core.specs.declared.machine.EdgeKind.TheVariants.{Sync}
 use Rattle.uz_scan.specs.declared.tracker.Tracker.{Tracker}
 use Rattle.uz_scan.specs.declared.scanner.Scan.TheVariants.{More, Line, Frame}
 use Rattle.uz_scan.specs.Lines.{is_high, is_fall, is_rise, ends_line, line_start, before_line, low_time, is_broad}

@@ -1,6 +1,6 @@
 -- What a scanner knows, as plain values.
 use Rattle.std.specs.Prelude.{◌≡◌, ℕ, ◌≤◌, List}
-use Rattle.uz_machine.specs.declared.Edge.{Edge}
+use Rattle.uz_core.specs.declared.machine.Edge.{Edge}
 use Rattle.uz_scan.specs.declared.scanner.Scanner.{Scanner}
 use Rattle.uz_scan.specs.declared.states.ScanState.{ScanState}
 use Rattle.uz_scan.specs.declared.tracker.Tracker.{Tracker}

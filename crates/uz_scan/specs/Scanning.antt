@@ -2,7 +2,7 @@
 use Rattle.std.specs.Prelude.{◌≡◌, ℕ, ◌+◌, ◌-◌, ◌*◌, ◌%◌, ◌^◌, ◌≤◌, ◌<◌, max, Bool, true, false, not, ◌&&◌, nat_lt, nat_le, if◌then◌else◌}
 use Rattle.std.specs.Prelude.{List, [], ◌∷◌, length, slice_index, Option, Some, None, unwrap_or, is_some}
 use Rattle.std.specs.Option.{option_map, option_map_or}
-use Rattle.uz_machine.specs.declared.Edge.{Edge}
+use Rattle.uz_core.specs.declared.machine.Edge.{Edge}
 use Rattle.uz_scan.specs.declared.scanner.Scan.{Scan}
 use Rattle.uz_scan.specs.declared.scanner.Scan.TheVariants.{More, Line, Frame}
 use Rattle.uz_scan.specs.declared.sampler.Sampler.{Sampler}

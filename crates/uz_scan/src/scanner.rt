@@ -1,12 +1,12 @@
 //! The scanner: edges come one by one, and one line is held.
 
 ghost use Rattle.std.specs.Prelude.{◌≡◌, ◌≤◌, ◌∷◌, [], List};
-ghost use Rattle.uz_machine.specs.declared.Edge.{Edge};
+ghost use Rattle.uz_core.specs.declared.machine.Edge.{Edge};
 
 use crate::records::{FrameInfo, LineInfo};
 use crate::sampler::Sampler;
 use crate::tracker::Tracker;
-use uz_machine::{Edge, EdgeKind};
+use uz_core::{Edge, EdgeKind};
 
 /// What the picture has more with an edge.
 #[derive(Clone, Copy)]

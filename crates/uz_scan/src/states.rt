@@ -1,7 +1,7 @@
 //! What a scanner knows, as plain values.
 
 ghost use Rattle.std.specs.Prelude.{◌≡◌, ◌≤◌, List};
-ghost use Rattle.uz_machine.specs.declared.Edge.{Edge};
+ghost use Rattle.uz_core.specs.declared.machine.Edge.{Edge};
 ghost use Rattle.uz_scan.specs.ScanStates.{HasSeen, IsOf, tracker_in};
 ghost use Rattle.uz_scan.specs.Scanning.{StandsFor, clock_of};
 

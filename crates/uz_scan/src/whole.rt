@@ -7,7 +7,7 @@ ghost use Rattle.uz_scan.specs.Pictures.{end_records_of, NeverFalls};
 use crate::records::{end_record, row_record};
 use crate::scanner::{Scan, Scanner};
 use std::alloc::{AllocError, Global};
-use uz_machine::Edge;
+use uz_core::Edge;
 
 /// Adds the record of what an edge shows, where the row is the last ended line's.
 fn add_record(out: &mut Vec<u8>, shown: &Scan, row: &[u8; 455]) -> Result<(), AllocError>

@@ -6,3 +6,4 @@ pub mod Places
 pub mod Searched
 pub mod SomeLevel
 pub mod Starts
+pub mod LimitAmounts

@@ -3,9 +3,13 @@
 #![tactic(auto)]
 
 mod certificate;
+mod certificate_limits;
+mod entries;
+mod fact_limits;
 mod fact_values;
 mod facts;
 mod frame;
+mod head;
 mod header;
 mod instances;
 mod kinds;
@@ -14,13 +18,16 @@ mod limits;
 mod line_events;
 mod line_order;
 mod lines;
+mod points;
 mod positions;
+mod range_limits;
 mod ranges;
 mod sequence;
 mod states;
 mod tracked;
 
 pub use certificate::Cert;
+pub use certificate_limits::well_formed;
 pub use fact_values::{hull_of_bytes, pair_by, span_of, val_of, word_at};
 pub use facts::{Bit, Fact, PairFact, Val};
 pub use header::{Cell, Head};

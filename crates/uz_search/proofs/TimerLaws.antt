@@ -2,9 +2,9 @@
 use Rattle.std.proofs.Common.{◌≡◌, ◌≢◌, ℕ, ◌+◌, ◌-◌, ◌*◌, Option, None, Bool, true, false, not, ◌&&◌, nat_eq, refl, ap}
 use Rattle.std.proofs.Common.{if◌then◌else◌, true≢false, arith}
 use Rattle.std.proofs.lemmas.Bool.Decides.{nat_tests}
-use Rattle.uz_machine.specs.declared.AddressMode.{AddressMode}
-use Rattle.uz_machine.specs.declared.Effect.{Effect}
-use Rattle.uz_machine.specs.declared.Effect.TheVariants.{NoOperation, Load, Store}
+use Rattle.uz_core.specs.declared.machine.AddressMode.{AddressMode}
+use Rattle.uz_core.specs.declared.machine.Effect.{Effect}
+use Rattle.uz_core.specs.declared.machine.Effect.TheVariants.{NoOperation, Load, Store}
 use Rattle.uz_schedule.specs.Ends.{Ends}
 use Rattle.uz_schedule.specs.Limits.{is_length, is_top}
 use Rattle.uz_schedule.specs.declared.header.Head.{Head}
@@ -12,14 +12,14 @@ use Rattle.uz_schedule.specs.declared.kinds.Kind.{Kind}
 use Rattle.uz_schedule.specs.declared.kinds.Kind.TheVariants.{Main, Handler, Alone}
 use Rattle.uz_schedule.specs.declared.states.Instance.{Instance}
 use Rattle.uz_range.specs.Answers.{is_single}
-use Rattle.uz_transfer.specs.declared.fail.Fail.{Fail}
-use Rattle.uz_transfer.specs.declared.fail.Fail.TheVariants as why
-use Rattle.uz_transfer.specs.Kinds.{is_handler}
-use Rattle.uz_transfer.specs.Memory.{address_range}
-use Rattle.uz_transfer.specs.Refusals.{fail_of, flag_fails, io_fails, is_setup_register, mask_fails, may_store, refuse_if}
-use Rattle.uz_transfer.specs.Refusals.{top_fails}
-use Rattle.uz_transfer.specs.Timer.{temp_after, temp_loaded, top_after}
-use Rattle.uz_transfer.specs.Values.{span_of, value_at}
+use Rattle.uz_rules.specs.declared.fail.Fail.{Fail}
+use Rattle.uz_rules.specs.declared.fail.Fail.TheVariants as why
+use Rattle.uz_rules.specs.Kinds.{is_handler}
+use Rattle.uz_rules.specs.Memory.{address_range}
+use Rattle.uz_rules.specs.Refusals.{fail_of, flag_fails, io_fails, is_setup_register, mask_fails, may_store, refuse_if}
+use Rattle.uz_rules.specs.Refusals.{top_fails}
+use Rattle.uz_rules.specs.Timer.{temp_after, temp_loaded, top_after}
+use Rattle.uz_rules.specs.Values.{span_of, value_at}
 
 -- Lines
 

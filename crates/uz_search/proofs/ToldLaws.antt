@@ -2,21 +2,21 @@
 use Rattle.std.proofs.Common.{◌≡◌, ℕ, Bool, true, false, Option, Some, None, nat_eq, refl, ap, ◌∙◌, if◌then◌else◌}
 use Rattle.std.specs.FinMap.{FinMap}
 use Rattle.std.specs.Ordering.{nat_cmp}
-use Rattle.uz_machine.specs.declared.AddressMode.{AddressMode}
-use Rattle.uz_machine.specs.declared.AddressMode.TheVariants.{Direct, PostIncrement, PreDecrement}
-use Rattle.uz_machine.specs.declared.Effect.{Effect}
-use Rattle.uz_machine.specs.declared.Effect.TheVariants.{Binary, Jump, Load, LoadProgram, NoOperation, Return, Store}
+use Rattle.uz_core.specs.declared.machine.AddressMode.{AddressMode}
+use Rattle.uz_core.specs.declared.machine.AddressMode.TheVariants.{Direct, PostIncrement, PreDecrement}
+use Rattle.uz_core.specs.declared.machine.Effect.{Effect}
+use Rattle.uz_core.specs.declared.machine.Effect.TheVariants.{Binary, Jump, Load, LoadProgram, NoOperation, Return, Store}
 use Rattle.uz_range.specs.Answers.{is_single}
 use Rattle.uz_schedule.specs.Ends.{Ends}
 use Rattle.uz_schedule.specs.Told.{instance_told, IsInstanceTold}
 use Rattle.uz_schedule.specs.declared.facts.Val.{Val}
 use Rattle.uz_schedule.specs.declared.header.Head.{Head}
 use Rattle.uz_schedule.specs.declared.states.Instance.{Instance}
-use Rattle.uz_transfer.specs.Memory.{stored_in, with_cell, with_pointer_range, with_stored}
-use Rattle.uz_transfer.specs.Transfer.{transfer}
-use Rattle.uz_transfer.specs.Values.{span_of, value_at, with_value}
-use Rattle.uz_transfer.specs.Memory.{address_range}
-use Rattle.uz_transfer.specs.Kinds.{cell_place}
+use Rattle.uz_rules.specs.Memory.{stored_in, with_cell, with_pointer_range, with_stored}
+use Rattle.uz_rules.specs.Transfer.{transfer}
+use Rattle.uz_rules.specs.Values.{span_of, value_at, with_value}
+use Rattle.uz_rules.specs.Memory.{address_range}
+use Rattle.uz_rules.specs.Kinds.{cell_place}
 
 -- y has all of x that isn't told
 abbrev pub LeavesUntold : Instance → Instance → Type 0

@@ -12,3 +12,7 @@ pub mod Widened
 pub mod Chains
 pub mod Places
 pub mod Widenings
+pub mod Accepting
+pub mod Complete
+pub mod Limits
+pub mod Made

@@ -4,6 +4,7 @@
 
 mod asking;
 mod chain;
+mod ended_laws;
 mod facts;
 mod found;
 mod instances;
@@ -22,6 +23,10 @@ mod ways;
 mod widened;
 mod widening;
 
+pub use ended_laws::{
+    ended_accepts, ended_falls_once, ended_levels, ended_levels_fit, ended_passes_local,
+    ended_rests_are_quiet, ended_rests_enter, ended_within_limits, lies_in_widened,
+};
 pub use facts::Facts;
 pub use found::{Found, NotFound};
 pub use instances::Instances;

@@ -2,7 +2,7 @@
 use Rattle.std.proofs.Common.{◌≡◌, ℕ, ◌-◌, ◌<◌, inl, inr, Bool, true, false, ◌||◌, if◌then◌else◌, IsTrue, refl, sym, ◌∙◌, ap, arith}
 use Rattle.std.proofs.lemmas.Bool.Decides.{nat_tests}
 use Rattle.std.proofs.Math.Nat.{mod-eq_of_lt}
-use Rattle.uz_machine.specs.Timer.{Timer, count_after, matches_within, timer_after}
+use Rattle.uz_core.specs.Timer.{Timer, count_after, matches_within, timer_after}
 use Rattle.uz_timer.specs.Counts.{counts, count_of, EndsAt, GoesRound}
 use Rattle.uz_timer.proofs.Counting.{low_count, low_match, mid_count, mid_match, or_false}
 

@@ -3,7 +3,7 @@ use Rattle.std.proofs.Common.{◌≡◌, ℕ, ◌+◌, ◌-◌, ◌%◌, ◌<◌
 use Rattle.std.proofs.Common.{◌∙◌, ap, arith}
 use Rattle.std.proofs.lemmas.Bool.Decides.{nat_tests}
 use Rattle.std.proofs.Math.Nat.{mod-lt, mod-eq_of_lt, mod_self, mod-add-mod}
-use Rattle.uz_machine.specs.Timer.{Timer, IsTimer, is_counting, count_after, matches_within, timer_after}
+use Rattle.uz_core.specs.Timer.{Timer, IsTimer, is_counting, count_after, matches_within, timer_after}
 use Rattle.uz_timer.specs.OneClock.{count_up, one_clock}
 
 -- The three cases of the division

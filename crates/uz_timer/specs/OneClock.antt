@@ -1,7 +1,7 @@
 -- One clock of timer 1, as the ATmega644 data sheet tells it: the count goes up by one, from the top to 0 with OCF1A
 -- set, and from 65,535 to 0.
 use Rattle.std.specs.Prelude.{◌+◌, true, if◌then◌else◌, nat_eq}
-use Rattle.uz_machine.specs.Timer.{Timer, is_counting}
+use Rattle.uz_core.specs.Timer.{Timer, is_counting}
 
 abbrev pub count_up : Timer → Timer
 count_up t =

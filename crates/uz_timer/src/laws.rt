@@ -1,7 +1,7 @@
 //! Laws of the timer's division.
 
 ghost use Rattle.std.specs.Prelude.{◌≡◌, ◌+◌, ℕ};
-ghost use Rattle.uz_machine.specs.Timer.{Timer, IsTimer, timer_after};
+ghost use Rattle.uz_core.specs.Timer.{Timer, IsTimer, timer_after};
 ghost use Rattle.uz_timer.specs.OneClock.{one_clock};
 
 /// The law that the division counts clock by clock: one clock moves the timer as the data sheet tells it, and so many

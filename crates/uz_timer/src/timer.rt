@@ -1,13 +1,13 @@
 //! Timer 1.
 
 ghost use Rattle.std.specs.Prelude.{◌≡◌, ◌+◌, ◌*◌, ◌<◌, ◌≤◌, ◌^◌, ◌↔◌, ℕ, IsTrue};
-ghost use Rattle.uz_machine.specs.Timer.{timer_at_reset, is_counting, count_after, matches_within, timer_after};
-ghost use Rattle.uz_machine.specs.Timer.{timer_taken, is_due, is_timer_address, timer_byte, timer_after_read};
-ghost use Rattle.uz_machine.specs.Timer.{timer_after_write};
+ghost use Rattle.uz_core.specs.Timer.{timer_at_reset, is_counting, count_after, matches_within, timer_after};
+ghost use Rattle.uz_core.specs.Timer.{timer_taken, is_due, is_timer_address, timer_byte, timer_after_read};
+ghost use Rattle.uz_core.specs.Timer.{timer_after_write};
 ghost use Rattle.uz_timer.specs.Counts.{EndsAt};
 
 use std::marker::Model;
-use uz_machine::address::{OCR1AH, OCR1AL, TCCR1A, TCCR1B, TCNT1H, TCNT1L, TIFR1, TIMSK1};
+use uz_core::address::{OCR1AH, OCR1AL, TCCR1A, TCCR1B, TCNT1H, TCNT1L, TIFR1, TIMSK1};
 
 /// Timer 1 of the ATmega644 with TEMP: the count, one compare register and one flag. Contracts see the registers.
 ///
@@ -30,7 +30,7 @@ pub struct Timer1 {
 
 impl Model for Timer1 {
     ghost use Rattle.std.specs.Prelude.{IsTrue};
-    ghost use Rattle.uz_machine.specs.Timer.{Timer};
+    ghost use Rattle.uz_core.specs.Timer.{Timer};
     ghost use Rattle.uz_timer.specs.Counts.{counts, count_of, GoesRound};
 
     ghost Value = { Timer };

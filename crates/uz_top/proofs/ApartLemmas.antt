@@ -4,9 +4,9 @@ use Rattle.std.specs.Prelude.{Option, Some, None, IfSome, string_bytes}
 use Rattle.std.proofs.lemmas.Slice.Eq.{bytes_eq-Decides}
 use Rattle.std.specs.declared.string.String.{String}
 use Rattle.std.specs.declared.alloc.Global.{Global}
-use Rattle.uz_text.specs.Numbers.{number_below, number_within}
+use Rattle.uz_hex.specs.Numbers.{number_below, number_within}
 use Rattle.uz_schedule.specs.declared.kinds.Response.{Response}
-use Rattle.uz_help.specs.Topics.{text_of}
+use Rattle.uz_top.specs.Topics.{text_of}
 use Rattle.uz_top.specs.Words.{help_words, hints_with, hints_words, prints, version_words}
 use Rattle.uz_top.specs.Words.{Command, Asm, Build, Check, Expand, Migrate, Report, Timing, WritesApart, asm_words, build_words, certify_with}
 use Rattle.uz_top.specs.Words.{certify_words, find_with, find_words, migrate_words, report_words, timing_words, wave_with, wave_words}

@@ -31,10 +31,10 @@ use Rattle.uz_certificate_commands.specs.FindCommand.{FindTells}
 use Rattle.uz_certificate_commands.specs.WhyCommand.{OneReading, WhyTells}
 use Rattle.uz_certificate_commands.proofs.WhyLemmas.{why_statuses, why_tells_one}
 use Rattle.uz_certificate_commands.proofs.MigrateLemmas.{migrate_done_answer, migrate_or_fault, migrate_same, migrate_status}
-use Rattle.uz_outcomes.proofs.PairLemmas.{pair_done, pair_or_fault, pair_same, pair_status}
-use Rattle.uz_outcomes.specs.VerdictLines.{accepted_line}
+use Rattle.uz_certificate_commands.proofs.PairLemmas.{pair_done, pair_or_fault, pair_same, pair_status}
+use Rattle.uz_certificate_commands.specs.VerdictLines.{accepted_line}
 use Rattle.uz_certificate_commands.specs.ReportCommand.{report_text}
-use Rattle.uz_timing.specs.Timing.{timing_text}
+use Rattle.uz_report.specs.Timing.{timing_text}
 use Rattle.uz_program_commands.specs.HintsCommand.{BadSource, Proposal}
 use Rattle.uz_program_commands.proofs.HintsLemmas.{hints_decided, hints_or_fault, hints_status}
 use Rattle.uz_program_commands.proofs.WaveLemmas.{wave_done, wave_or_fault, wave_same, wave_status}

@@ -8,7 +8,7 @@ use Rattle.uz_files.specs.declared.status.Status.TheVariants.{Done}
 use Rattle.uz_files.specs.Answers.{Answer, Ends, NoPart, Outside, one_line}
 use Rattle.uz_top.specs.Words.{Command, Asm, Build, Certify, Check, Debug, Demo, Dis, Expand, Find, Hints, Migrate, Play, Prints, Report, Timing, Trace, Wave, Why}
 use Rattle.uz_program_commands.specs.TraceCommand.{TraceAnswers, TraceParts}
-use Rattle.uz_outcomes.specs.RunFiles.{RunLacks, RunSucceeds}
+use Rattle.uz_files.specs.RunFiles.{RunLacks, RunSucceeds}
 use Rattle.uz_program_commands.specs.MacroCommands.{BuildAnswers, BuildSucceeds, ExpandAnswers, ExpandSucceeds, FilesBuilt}
 use Rattle.uz_program_commands.specs.MacroSource.{MacroLacks}
 use Rattle.uz_certificate_commands.specs.PlayCommand.{FilesHalted, FilesPlayed, PlayAnswers, PlayLacks, PlayParts, PlaySucceeds}
@@ -26,8 +26,8 @@ use Rattle.uz_certificate_commands.specs.ReportCommand.{FilesReported, ReportAns
 use Rattle.uz_certificate_commands.specs.TimingCommand.{TimingAnswers}
 use Rattle.uz_program_commands.specs.WaveCommand.{FilesHeard, WaveAnswers}
 use Rattle.uz_program_commands.specs.HintsCommand.{FilesHinted, HintsAnswers, HintsAnswersBy, IsProposal, Proposal}
-use Rattle.uz_outcomes.specs.PairFiles.{PairLacks, SpellPair}
-use Rattle.uz_soundness.specs.Acceptance.{Accepts}
+use Rattle.uz_certificate_commands.specs.PairFiles.{PairLacks, SpellPair}
+use Rattle.uz_check.specs.Acceptance.{Accepts}
 
 -- the answer of a command, from what its files say
 abbrev pub Answers : Option FileMap → Type 0 → Command → Answer → Type 0

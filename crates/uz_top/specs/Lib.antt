@@ -1,3 +1,4 @@
 pub mod CommandValues
 pub mod Commands
 pub mod Words
+pub mod Topics

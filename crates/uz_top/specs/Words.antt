@@ -3,8 +3,8 @@ use Rattle.std.specs.Prelude.{◌≡◌, ◌≢◌, ℕ, ◌||◌, List, [], ◌
 use Rattle.std.specs.Prelude.{if◌then◌else◌}
 use Rattle.std.specs.declared.string.String.{String}
 use Rattle.std.specs.declared.alloc.Global.{Global}
-use Rattle.uz_text.specs.Numbers.{number_below, number_within}
-use Rattle.uz_help.specs.Topics.{help_text, text_of, version_text}
+use Rattle.uz_hex.specs.Numbers.{number_below, number_within}
+use Rattle.uz_top.specs.Topics.{help_text, text_of, version_text}
 use Rattle.uz_schedule.specs.declared.kinds.Response.{Response}
 use Rattle.uz_schedule.specs.declared.kinds.Response.TheVariants.{Four, Five}
 

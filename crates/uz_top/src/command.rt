@@ -2,7 +2,7 @@
 
 ghost use Rattle.std.specs.Prelude.{◌≡◌, ◌∷◌, ◌||◌, bytes_eq, map, not, option_map, string_bytes};
 ghost use Rattle.uz_top.specs.CommandValues.{value_of};
-ghost use Rattle.uz_text.specs.Numbers.{number_below, number_within as number_from_low};
+ghost use Rattle.uz_hex.specs.Numbers.{number_below, number_within as number_from_low};
 ghost use Rattle.uz_top.specs.Words.{asm_words, build_words, certify_with as certify_with_response, certify_words};
 ghost use Rattle.uz_top.specs.Words.{check_words, command_of, debug_with as debug_with_response, debug_words};
 ghost use Rattle.uz_top.specs.Words.{demo_with as demo_with_number, demo_words, dis_words, expand_words, migrate_words};
@@ -12,10 +12,10 @@ ghost use Rattle.uz_top.specs.Words.{play_with as play_with_clocks, play_words, 
 ghost use Rattle.uz_top.specs.Words.{trace_with as trace_with_numbers, trace_words, version_words};
 ghost use Rattle.uz_top.specs.Words.{wave_with as wave_with_numbers, wave_words, why_with as why_with_response, why_words};
 
+use crate::{help_text, text_of, version_text};
 use uz_cert::Response;
 use uz_certificate_commands::{Clocks, number_of_clocks};
-use uz_help::{help_text, text_of, version_text};
-use uz_text::{number, number_within};
+use uz_hex::{number, number_within};
 
 /// A command, with the names of its files.
 #[derive(Clone, Copy)]

@@ -6,10 +6,11 @@ ghost use Rattle.uz_shelf.specs.Files.{FileMap};
 ghost use Rattle.uz_files.specs.Answers.{AndTells, ComesOf, LoadFault, MayCome, WriteFault, one_line, outside};
 ghost use Rattle.uz_top.specs.CommandValues.{value_of};
 ghost use Rattle.uz_top.specs.Commands.{Answers, Certifies, CreatesNone, IsDecided, LacksRead, PartAnswers, StopTells, Succeeds};
-ghost use Rattle.uz_help.specs.Topics.{usage_line};
+ghost use Rattle.uz_top.specs.Topics.{usage_line};
 ghost use Rattle.uz_top.specs.Words.{AreNoCommand, IfCommand, WritesApart};
 
 use crate::command::{Command, parse};
+use crate::usage_line;
 use avr_macro::expansion_is_unique;
 use std::alloc::Global;
 use uz_certificate_commands::{
@@ -17,7 +18,6 @@ use uz_certificate_commands::{
     run_report, run_timing, run_why,
 };
 use uz_files::{Status, end_done, end_fault, put_no_memory, readings_are_unique};
-use uz_help::usage_line;
 use uz_program_commands::{
     run_asm, run_build, run_debug, run_dis, run_expand, run_hints, run_trace, run_wave,
 };

@@ -4,14 +4,14 @@ use Rattle.std.specs.Ordering.{nat_cmp}
 use Rattle.std.specs.FinMap.{FinMap}
 use Rattle.uz_hex.specs.HexText.{IsHexOf, IsFirstFault}
 use Rattle.uz_hex.specs.declared.errors.HexWhy.{HexWhy}
-use Rattle.uz_machine.specs.Turn.{history_at_reset, state_at_reset}
+use Rattle.uz_core.specs.Turn.{history_at_reset, state_at_reset}
 use Rattle.uz_pads.specs.declared.pads.Pad.{Pad}
-use Rattle.uz_frames.specs.declared.calls.Called.{Called}
-use Rattle.uz_frames.specs.declared.frame.Frame.{Frame}
-use Rattle.uz_frames.specs.declared.frame.Frame.TheVariants as how
-use Rattle.uz_frames.specs.declared.state.State.{State}
-use Rattle.uz_frames.specs.Calls.{IsCalled}
-use Rattle.uz_frames.specs.States.{StandsFor}
+use Rattle.uz_player.specs.declared.calls.Called.{Called}
+use Rattle.uz_player.specs.declared.frame.Frame.{Frame}
+use Rattle.uz_player.specs.declared.frame.Frame.TheVariants as how
+use Rattle.uz_player.specs.declared.state.State.{State}
+use Rattle.uz_player.specs.Calls.{IsCalled}
+use Rattle.uz_player.specs.States.{StandsFor}
 use Rattle.uzebox_c.specs.declared.live.Answer.{Answer}
 
 abbrev pub number_of : Frame → ℕ

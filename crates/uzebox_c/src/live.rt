@@ -8,9 +8,9 @@ ghost use Rattle.uz_schedule.specs.Schedule.{response_clocks};
 
 use std::alloc::Global;
 use uz_console::Response;
-use uz_frames::{Called, Frame, Play, State, play_frame};
 use uz_hex::{HexWhy, Image, read_hex};
 use uz_pads::Pad;
+use uz_player::{Called, Frame, Play, State, play_frame};
 
 /// How a call of live play ended.
 #[repr(C)]

@@ -1,7 +1,7 @@
 //! The files that are there, and what a command asks of the outside.
 
+use crate::{Answer, Fail, MemoryShelf, run, words_of};
 use anyhow::Result;
-use command_bench::{Answer, Fail, MemoryShelf, run, words_of};
 use std::alloc::Global;
 
 /// A file that is there before the command.

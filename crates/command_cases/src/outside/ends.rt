@@ -1,7 +1,7 @@
 //! What a run is to leave, beside the run that nothing disturbs.
 
+use crate::Status;
 use crate::outside::case::{Case, RunEnd, Written};
-use command_bench::Status;
 
 /// A fault of the shelf's call of that number, counted from 1, which keeps so many bytes.
 #[derive(Clone, Copy)]

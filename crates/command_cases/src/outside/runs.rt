@@ -4,8 +4,8 @@ use crate::outside::case::{Case, RunEnd};
 use crate::outside::ends::{
     Fault, front, has_all_files, is_undisturbed, is_unread, is_wanted, last_line,
 };
+use crate::{Fail, Status, words_of};
 use anyhow::Result;
-use command_bench::{Fail, Status, words_of};
 use std::alloc::Global;
 
 /// How many bytes a call that fails keeps.

@@ -1,5 +1,5 @@
 use Rattle.std.proofs.Common.{map, sym, ◌∙◌, ap, subst}
-use Rattle.avr_operands.specs.Faults.{Gives, ◌>>=◌}
+use Rattle.avr_text.specs.Faults.{Gives, ◌>>=◌}
 use Rattle.avr_asm.specs.Assembly.{seen_built, with_action, with_instruction}
 use Rattle.avr_asm.proofs.AssemblyLemmas.{no_output}
 use Rattle.avr_asm.proofs.assembler.put_action.Goals as goal

@@ -1,6 +1,6 @@
 use Rattle.std.proofs.Common.{length, map, sym, ◌∙◌, ap, subst}
-use Rattle.avr_operands.specs.Faults.{Gives}
-use Rattle.avr_operands.specs.Operands.{AllLie, EachLies}
+use Rattle.avr_text.specs.Faults.{Gives}
+use Rattle.avr_text.specs.Operands.{AllLie, EachLies}
 use Rattle.avr_asm.specs.Assembly.{seen_built}
 use Rattle.avr_asm.proofs.AssemblyLemmas.{line_told}
 use Rattle.avr_asm.proofs.assembler.put_line.Goals as goal

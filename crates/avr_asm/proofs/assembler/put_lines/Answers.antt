@@ -1,6 +1,6 @@
 use Rattle.std.proofs.Common.{◌≡◌, ◌⊎◌, map, subst}
 use Rattle.std.specs.Prelude.{Ok, Err}
-use Rattle.avr_operands.specs.declared.errors.AsmWhy.TheVariants.{Memory}
+use Rattle.avr_text.specs.declared.errors.AsmWhy.TheVariants.{Memory}
 use Rattle.avr_asm.specs.Assembly.{Output, output_from, seen_built}
 use Rattle.avr_asm.specs.Taken.{over}
 use Rattle.avr_asm.proofs.assembler.put_lines.Goals as goal

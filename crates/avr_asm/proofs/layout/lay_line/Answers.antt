@@ -1,5 +1,5 @@
 use Rattle.std.proofs.Common.{subst}
-use Rattle.avr_operands.specs.Faults.{Gives}
+use Rattle.avr_text.specs.Faults.{Gives}
 use Rattle.avr_asm.proofs.LayoutLemmas.{after_told}
 use Rattle.avr_asm.proofs.layout.lay_line.Goals as goal
 

@@ -4,8 +4,8 @@ use Rattle.std.proofs.Math.Seq.{take-length}
 use Rattle.std.proofs.lemmas.List.Elements.{All-drop, All-take}
 use Rattle.avr_text.specs.declared.tokens.Token.{Token}
 use Rattle.avr_text.specs.Tokens.{Lies, text_of}
-use Rattle.avr_operands.specs.declared.mnemonics.Mnemonic.{Mnemonic}
-use Rattle.avr_operands.specs.Mnemonics.{mnemonic_of}
+use Rattle.avr_text.specs.declared.mnemonics.Mnemonic.{Mnemonic}
+use Rattle.avr_text.specs.Mnemonics.{mnemonic_of}
 use Rattle.avr_asm.specs.declared.lines.Action.TheVariants.{Unknown}
 use Rattle.avr_asm.specs.Lines.{action_of, dot_action, instruction_or_unknown, is_dot, is_name}
 use Rattle.avr_asm.proofs.lines.action_of.Goals as goal

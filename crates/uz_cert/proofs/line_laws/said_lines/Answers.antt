@@ -1,6 +1,6 @@
 use Rattle.std.proofs.Common.{◌≡◌, ◌-◌, length, arith, refl, sym, subst}
 use Rattle.std.specs.Prelude.{Some, Ok}
-use Rattle.uz_cert_words.specs.Grammar.{Words}
+use Rattle.uz_cert_lines.specs.Grammar.{Words}
 use Rattle.uz_cert_lines.specs.Forms.{reads}
 use Rattle.uz_cert_lines.specs.declared.lines.Said.{Said}
 use Rattle.uz_cert_lines.specs.declared.lines.Said.TheVariants as said

@@ -1,7 +1,7 @@
 use Rattle.std.proofs.Common.{inl, inr, ◌+◌, ◌<◌, ◌^◌, Err, ap, sym, ◌∙◌, subst, arith}
 use Rattle.std.specs.Prelude.{ℕ, Result}
 use Rattle.uz_schedule.specs.declared.certificate.Cert.{Cert}
-use Rattle.uz_cert_words.specs.declared.why.CertWhy.{CertWhy}
+use Rattle.uz_cert_lines.specs.declared.why.CertWhy.{CertWhy}
 use Rattle.uz_cert.specs.Reading.{Fault, bytes_left, pieces_left, pieces_of, read_from}
 use Rattle.uz_cert.proofs.Steps.{step_on, step_fault}
 use Rattle.uz_cert.proofs.Whole.{gives_fits}

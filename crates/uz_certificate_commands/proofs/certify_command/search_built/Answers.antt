@@ -1,6 +1,6 @@
 use Rattle.std.proofs.Common.{rules, subst, Ok, Err}
 use Rattle.uz_paths.specs.Finding.{IsAsked}
-use Rattle.uz_outcomes.specs.SearchLines.{IsWorth}
+use Rattle.uz_certificate_commands.specs.SearchLines.{IsWorth}
 use Rattle.uz_certificate_commands.proofs.CertifyLemmas.{allowed_of, found_pair}
 use Rattle.uz_certificate_commands.proofs.certify_command.search_built.Goals as goal
 use Rattle.uz_certificate_commands.proofs.certify_command.search_built.Goals.{In_ok-line-in-Err}

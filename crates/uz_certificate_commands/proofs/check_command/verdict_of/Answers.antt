@@ -1,6 +1,6 @@
-use Rattle.uz_soundness.specs.Certified.{Certified}
-use Rattle.uz_outcomes.proofs.PairLemmas.{checked_answers, checked_pair, preface_answers}
-use Rattle.uz_outcomes.specs.VerdictLines.{accepted_line}
+use Rattle.uz_check.specs.Certified.{Certified}
+use Rattle.uz_certificate_commands.proofs.PairLemmas.{checked_answers, checked_pair, preface_answers}
+use Rattle.uz_certificate_commands.specs.VerdictLines.{accepted_line}
 use Rattle.uz_certificate_commands.proofs.check_command.verdict_of.Goals as goal
 
 pub returns-in-Err-clause-gives : goal.returns-in-Err-clause-gives

@@ -1,6 +1,6 @@
 use Rattle.std.proofs.Common.{◌≡◌, []}
-use Rattle.uz_machine.specs.PadLine.{PadHistory}
-use Rattle.uz_machine.specs.Turn.{State}
+use Rattle.uz_core.specs.PadLine.{PadHistory}
+use Rattle.uz_core.specs.Turn.{State}
 use Rattle.uz_player.specs.Playing.{Plays, ahead_of, cert_of, limit_of}
 use Rattle.uz_certificate_commands.specs.DemoValues.{IsPlaying}
 use Rattle.uz_certificate_commands.proofs.demo_run.play_out.Given as goal

@@ -2,7 +2,7 @@ use Rattle.std.proofs.Common.{refl, subst}
 use Rattle.std.specs.Prelude.{None}
 use Rattle.uz_files.specs.declared.ending.Ending.{Ending}
 use Rattle.uz_files.specs.declared.status.Status.TheVariants.{Refused}
-use Rattle.uz_outcomes.proofs.RunWorthLemmas.{refused_not_done, refused_not_stopped}
+use Rattle.uz_certificate_commands.proofs.RunWorthLemmas.{refused_not_done, refused_not_stopped}
 use Rattle.uz_certificate_commands.specs.DemoCommand.{demo_start}
 use Rattle.uz_certificate_commands.specs.DemoValues.{IsSearched}
 use Rattle.uz_certificate_commands.proofs.DemoLemmas.{demo_refused, demo_runs}

@@ -1,7 +1,7 @@
 use Rattle.std.proofs.Common.{rules, subst, Ok, Err}
 use Rattle.std.proofs.lemmas.Result.{IfOk-weaker}
 use Rattle.uz_schedule.specs.declared.kinds.Response.TheVariants.{Four}
-use Rattle.uz_outcomes.specs.SearchLines.{IsWorth}
+use Rattle.uz_certificate_commands.specs.SearchLines.{IsWorth}
 use Rattle.uz_paths.specs.Finding.{IsAsked}
 use Rattle.uz_certificate_commands.specs.DemoValues.{IsPrepared, IsSearched}
 use Rattle.uz_certificate_commands.proofs.CertifyLemmas.{allowed_of}

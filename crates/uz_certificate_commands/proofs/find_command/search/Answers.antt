@@ -1,5 +1,5 @@
 use Rattle.std.proofs.Common.{refl, rules, Ok, Err}
-use Rattle.uz_outcomes.specs.SearchLines.{IsWorth}
+use Rattle.uz_certificate_commands.specs.SearchLines.{IsWorth}
 use Rattle.uz_certificate_commands.proofs.CertifyLemmas.{allowed_of}
 use Rattle.uz_certificate_commands.proofs.find_command.search.Goals as goal
 use Rattle.uz_certificate_commands.proofs.find_command.search.Goals.{In_ok-line-in-Err}

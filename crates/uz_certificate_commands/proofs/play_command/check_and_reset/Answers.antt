@@ -1,11 +1,11 @@
 use Rattle.std.proofs.Common.{refl, inl, ap, subst, ◌∙◌}
 use Rattle.uz_pads.specs.Pads.{pairs_of}
 use Rattle.uz_console.specs.Consoles.{StandsFor}
-use Rattle.uz_soundness.specs.Certified.{Certified}
+use Rattle.uz_check.specs.Certified.{Certified}
 use Rattle.uz_files.specs.Answers.{one_line}
-use Rattle.uz_outcomes.specs.VerdictLines.{refused_line}
+use Rattle.uz_certificate_commands.specs.VerdictLines.{refused_line}
 use Rattle.uz_files.specs.declared.status.Status.TheVariants.{Refused}
-use Rattle.uz_outcomes.specs.RunFiles.{start_of}
+use Rattle.uz_files.specs.RunFiles.{start_of}
 use Rattle.uz_certificate_commands.proofs.play_command.check_and_reset.Goals as goal
 
 pub returns-in-Ok-reset : goal.returns-in-Ok-reset

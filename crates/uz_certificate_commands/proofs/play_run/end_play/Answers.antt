@@ -1,7 +1,7 @@
 use Rattle.std.proofs.Common.{refl}
 use Rattle.uz_files.specs.declared.status.Status.TheVariants.{NoMemory}
 use Rattle.uz_files.proofs.TextLemmas.{takes_none}
-use Rattle.uz_outcomes.proofs.RunLemmas.{comes_of_ending, lacks_text}
+use Rattle.uz_certificate_commands.proofs.RunLemmas.{comes_of_ending, lacks_text}
 use Rattle.uz_certificate_commands.proofs.play_run.end_play.Goals as goal
 
 pub returns-in-Ok-clause-comes : goal.returns-in-Ok-clause-comes

@@ -1,7 +1,7 @@
 use Rattle.std.proofs.Common.{ap, inl, inr, refl, Err}
 use Rattle.uz_files.specs.declared.status.Status.TheVariants.{NoMemory}
 use Rattle.uz_files.proofs.TextLemmas.{takes_none}
-use Rattle.uz_outcomes.proofs.RunLemmas.{run_captured, run_lacks, run_unwritten}
+use Rattle.uz_certificate_commands.proofs.RunLemmas.{run_captured, run_lacks, run_unwritten}
 use Rattle.uz_certificate_commands.proofs.play_run.play_on.Goals as goal
 
 pub returns-in-Ok-clause-outcome : goal.returns-in-Ok-clause-outcome

@@ -1,12 +1,12 @@
 use Rattle.std.proofs.Common.{◌⊎◌, inl, inr, subst}
 use Rattle.uz_shelf.specs.Faults.{Rose}
 use Rattle.uz_certificate_commands.specs.PlayValues.{IsStart}
-use Rattle.uz_outcomes.specs.RunFiles.{start_of}
+use Rattle.uz_files.specs.RunFiles.{start_of}
 use Rattle.uz_files.proofs.FaultLemmas.{rose_same}
 use Rattle.uz_certificate_commands.proofs.PlayLemmas.{play_failed, play_refused, play_runs}
 use Rattle.uz_certificate_commands.proofs.PlayWorthLemmas.{is_halted, is_played}
-use Rattle.uz_outcomes.proofs.RunWorthLemmas.{failed_not_done, failed_not_stopped, refused_not_done}
-use Rattle.uz_outcomes.proofs.RunWorthLemmas.{refused_not_stopped}
+use Rattle.uz_certificate_commands.proofs.RunWorthLemmas.{failed_not_done, failed_not_stopped, refused_not_done}
+use Rattle.uz_certificate_commands.proofs.RunWorthLemmas.{refused_not_stopped}
 use Rattle.uz_certificate_commands.proofs.play_run.run_play.Goals as goal
 
 pub returns-in-Err-clause-outcome : goal.returns-in-Err-clause-outcome

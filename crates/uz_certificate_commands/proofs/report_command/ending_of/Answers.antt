@@ -1,4 +1,4 @@
-use Rattle.uz_outcomes.proofs.PairLemmas.{refused_verdict}
+use Rattle.uz_certificate_commands.proofs.PairLemmas.{refused_verdict}
 use Rattle.uz_certificate_commands.specs.ReportCommand.{report_text}
 use Rattle.uz_certificate_commands.proofs.report_command.ending_of.Goals as goal
 

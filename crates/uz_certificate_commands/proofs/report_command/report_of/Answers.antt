@@ -1,4 +1,4 @@
-use Rattle.uz_outcomes.proofs.PairLemmas.{checked_answers, checked_pair, preface_answers}
+use Rattle.uz_certificate_commands.proofs.PairLemmas.{checked_answers, checked_pair, preface_answers}
 use Rattle.uz_report.specs.MainsTime.{MainsTimeTells}
 use Rattle.uz_certificate_commands.specs.ReportCommand.{report_text}
 use Rattle.uz_certificate_commands.proofs.report_command.report_of.Goals as goal

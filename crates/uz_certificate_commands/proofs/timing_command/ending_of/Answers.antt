@@ -1,5 +1,5 @@
-use Rattle.uz_outcomes.proofs.PairLemmas.{refused_verdict}
-use Rattle.uz_timing.specs.Timing.{timing_text}
+use Rattle.uz_certificate_commands.proofs.PairLemmas.{refused_verdict}
+use Rattle.uz_report.specs.Timing.{timing_text}
 use Rattle.uz_certificate_commands.proofs.timing_command.ending_of.Goals as goal
 
 pub returns-in-Refused-clause-answer : goal.returns-in-Refused-clause-answer

@@ -1,5 +1,5 @@
 use Rattle.std.proofs.Common.{refl, rules, subst, Ok, Err}
-use Rattle.uz_outcomes.specs.SearchLines.{Allowed, IsWorth}
+use Rattle.uz_certificate_commands.specs.SearchLines.{Allowed, IsWorth}
 use Rattle.uz_certificate_commands.specs.HintedValues.{hints_seen}
 use Rattle.uz_certificate_commands.proofs.CertifyLemmas.{allowed_of}
 use Rattle.uz_certificate_commands.proofs.WhyLemmas.{found_told, refusal_told}

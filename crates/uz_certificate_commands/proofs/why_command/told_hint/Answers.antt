@@ -1,5 +1,5 @@
 use Rattle.std.proofs.Common.{subst}
-use Rattle.uz_hints.specs.Rules.{IsRuleAt}
+use Rattle.uz_paths.specs.Rules.{IsRuleAt}
 use Rattle.uz_certificate_commands.specs.HintedValues.{hints_seen}
 use Rattle.uz_certificate_commands.proofs.WhyLemmas.{hint_told}
 use Rattle.uz_certificate_commands.proofs.why_command.told_hint.Goals as goal

@@ -1,5 +1,5 @@
 use Rattle.std.proofs.Common.{◌≡◌, take}
-use Rattle.uz_machine.specs.Run.{edges_until}
+use Rattle.uz_core.specs.Run.{edges_until}
 use Rattle.uz_console.proofs.approach.all_in_time.Given as goal
 
 -- the edges so far are in time

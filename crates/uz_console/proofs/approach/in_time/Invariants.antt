@@ -1,5 +1,5 @@
 use Rattle.std.proofs.Common.{◌≡◌, ◌≤◌, length, take}
-use Rattle.uz_machine.specs.Run.{edges_until}
+use Rattle.uz_core.specs.Run.{edges_until}
 use Rattle.uz_console.proofs.approach.in_time.Given as goal
 
 -- those of the edges so far that are in time, which are no more than the edges so far

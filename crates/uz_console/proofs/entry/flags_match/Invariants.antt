@@ -1,5 +1,5 @@
 use Rattle.std.proofs.Common.{ℕ, ◌<◌}
-use Rattle.uz_machine.specs.Arithmetic.{bit_is_set}
+use Rattle.uz_core.specs.Arithmetic.{bit_is_set}
 use Rattle.uz_console.specs.Entry.{BitHolds, flag_at}
 use Rattle.uz_console.proofs.entry.flags_match.Given as goal
 

@@ -2,7 +2,7 @@ use Rattle.std.proofs.Common.{inl, inr, refl, ◌⊎◌, ◌≡◌}
 use Rattle.uz_schedule.specs.Schedule.{response_clocks}
 use Rattle.uz_schedule.specs.declared.kinds.Response.{Response}
 use Rattle.uz_schedule.specs.declared.kinds.Response.TheVariants.{Four, Five}
-use Rattle.uz_machine.proofs.StateKept.{reset_is_state}
+use Rattle.uz_core.proofs.StateKept.{reset_is_state}
 use Rattle.uz_console.proofs.laws.reset_is_in_range.Goals as goal
 
 four_or_five : (irq : Response) → (response_clocks irq ≡ 4) ⊎ (response_clocks irq ≡ 5)

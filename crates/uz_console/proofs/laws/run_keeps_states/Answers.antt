@@ -1,4 +1,4 @@
-use Rattle.uz_machine.proofs.StateKept.{run_kept, run_part_kept}
+use Rattle.uz_core.proofs.StateKept.{run_kept, run_part_kept}
 use Rattle.uz_console.proofs.laws.run_keeps_states.Goals as goal
 
 pub returns-clause-run : goal.returns-clause-run

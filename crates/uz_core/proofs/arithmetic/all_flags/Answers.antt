@@ -1,7 +1,7 @@
 use Rattle.std.proofs.Common.{◌≡◌, ℕ, ◌+◌, ◌*◌, Bool, true, false, not, refl, ap, ◌∙◌, arith, bit_and, sym}
 use Rattle.std.specs.Bool.{beq}
-use Rattle.uz_machine.specs.Arithmetic.{bit_value, exclusive_or, flags_cznvsh, flags_of}
-use Rattle.uz_machine.specs.declared.Flags.{Flags}
+use Rattle.uz_core.specs.Arithmetic.{bit_value, exclusive_or, flags_cznvsh, flags_of}
+use Rattle.uz_core.specs.declared.machine.Flags.{Flags}
 use Rattle.uz_core.proofs.arithmetic.all_flags.Goals as goal
 
 abbrev value : ℕ → ℕ → ℕ → ℕ → ℕ → ℕ → ℕ

@@ -3,7 +3,7 @@ use Rattle.std.specs.Prelude.{ℤ, pos, negsuc, ◌*ℤ◌}
 use Rattle.std.specs.Int.{cast_unsigned, int_wrap, int_rem_euclid, int_wrapping_mul}
 use Rattle.std.specs.Int.RustNames.{unsigned_abs}
 use Rattle.std.proofs.lemmas.Int.{wraps, of_z-to_z}
-use Rattle.uz_machine.specs.Arithmetic.{low_word}
+use Rattle.uz_core.specs.Arithmetic.{low_word}
 use Rattle.uz_core.proofs.arithmetic.low_product.Goals as goal
 
 low_word-lt : (z : ℤ) → unsigned_abs (int_rem_euclid z (pos 65536)) < 65536

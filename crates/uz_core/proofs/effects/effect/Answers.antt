@@ -1,6 +1,6 @@
 use Rattle.std.proofs.Common.{sym, subst}
-use Rattle.uz_machine.specs.OperandRanges.{EffectFits}
-use Rattle.uz_machine.proofs.EffectRanges.{effect_fits}
+use Rattle.uz_core.specs.OperandRanges.{EffectFits}
+use Rattle.uz_core.proofs.EffectRanges.{effect_fits}
 use Rattle.uz_core.proofs.effects.effect.Goals as goal
 
 pub returns-clause-fits : goal.returns-clause-fits

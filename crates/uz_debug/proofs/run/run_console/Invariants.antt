@@ -1,6 +1,6 @@
 use Rattle.std.proofs.Common.{◌-◌, ◌*◌, ◌≤◌}
-use Rattle.uz_machine.specs.PadLine.{PadHistory}
-use Rattle.uz_machine.specs.Turn.{State}
+use Rattle.uz_core.specs.PadLine.{PadHistory}
+use Rattle.uz_core.specs.Turn.{State}
 use Rattle.uz_console.specs.Consoles.{clock_of}
 use Rattle.uz_debug.specs.Timelines.{IsAt, Passed, stops_of}
 use Rattle.uz_debug.proofs.run.run_console.Given as goal

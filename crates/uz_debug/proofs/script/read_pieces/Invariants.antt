@@ -1,5 +1,5 @@
 use Rattle.std.proofs.Common.{take, map, All}
-use Rattle.uz_text.specs.Lines.{lines_of_pieces}
+use Rattle.uz_hex.specs.Lines.{lines_of_pieces}
 use Rattle.uz_debug.specs.Scripts.{IsScript}
 use Rattle.uz_debug.specs.Sessions.{IsInRange}
 use Rattle.uz_debug.proofs.script.read_pieces.Given as goal

@@ -1,7 +1,7 @@
 use Rattle.std.proofs.Common.{rules}
 use Rattle.std.proofs.lemmas.Iterator.Consumers.{map_from_collect}
 use Rattle.std.proofs.lemmas.Iterator.Splits.{YieldsList-from_slice_split}
-use Rattle.uz_text.specs.Lines.{is_blank}
+use Rattle.uz_hex.specs.Lines.{is_blank}
 use Rattle.uz_debug.proofs.script_lines.between_blanks.Goals as goal
 
 pub returns : goal.returns

@@ -1,11 +1,11 @@
 use Rattle.avr_asm.specs.FirstFault.{IsFirstFault as IsSourceFault}
-use Rattle.avr_operands.specs.WhyNames.{asm_why_name}
+use Rattle.avr_text.specs.WhyNames.{asm_why_name}
 use Rattle.uz_cert.specs.Texts.{IsFirstFault as IsCertificateFault}
 use Rattle.uz_hex.specs.HexText.{IsFirstFault as IsHexFault}
 use Rattle.uz_hex.specs.WhyNames.{hex_why_name}
-use Rattle.uz_cert_words.specs.WhyNames.{cert_why_name}
+use Rattle.uz_cert_lines.specs.WhyNames.{cert_why_name}
 use Rattle.uz_cert_lines.specs.declared.version.Version.TheVariants.{First, Second}
-use Rattle.uz_text.specs.Lines.{lines_of}
+use Rattle.uz_hex.specs.Lines.{lines_of}
 use Rattle.uz_pads.specs.WhyNames.{pad_why_name}
 use Rattle.uz_files.specs.Formats.{HasPadFault}
 use Rattle.uz_files.proofs.ReadingLemmas.{one_refusal}

@@ -1,4 +1,4 @@
-use Rattle.uz_points.proofs.SameFacts.{same_as_itself}
+use Rattle.uz_join.proofs.SameFacts.{same_as_itself}
 use Rattle.uz_join.proofs.joining.joined_along.Goals as goal
 
 pub returns-in-None-clause-same : goal.returns-in-None-clause-same

@@ -1,4 +1,4 @@
-use Rattle.uz_points.proofs.SameFacts.{same_through}
+use Rattle.uz_join.proofs.SameFacts.{same_through}
 use Rattle.uz_join.proofs.joining.joined_both.Goals as goal
 
 pub returns-clause-same : goal.returns-clause-same

@@ -1,6 +1,6 @@
 use Rattle.std.proofs.Common.{sym, subst}
 use Rattle.uz_schedule.specs.WellFormed.{WellFormed}
-use Rattle.uz_soundness.specs.Acceptance.{Accepts}
+use Rattle.uz_check.specs.Acceptance.{Accepts}
 use Rattle.uz_paths.proofs.Complete.{Laws, well_formed, accepted}
 use Rattle.uz_paths.proofs.FindLemmas.{found_by}
 use Rattle.uz_paths.proofs.finding.certificate.Goals as goal

@@ -1,7 +1,7 @@
 use Rattle.std.proofs.Common.{subst}
 use Rattle.std.specs.Prelude.{IfSome}
 use Rattle.uz_schedule.specs.WellFormed.{WellFormed}
-use Rattle.uz_soundness.specs.Acceptance.{Accepts}
+use Rattle.uz_check.specs.Acceptance.{Accepts}
 use Rattle.uz_paths.specs.Finding.{IsAsked}
 use Rattle.uz_paths.proofs.FindLemmas.{found_unhinted, refused_alike}
 use Rattle.uz_paths.proofs.finding.find.Goals as goal

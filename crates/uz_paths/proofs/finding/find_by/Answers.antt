@@ -4,7 +4,7 @@ use Rattle.uz_paths.specs.Finding.{IsFoundBy}
 use Rattle.uz_schedule.specs.WellFormed.{WellFormed}
 use Rattle.uz_search.specs.Fitting.{ProgramFits}
 use Rattle.uz_search.specs.Searching.{IsEnded}
-use Rattle.uz_soundness.specs.Acceptance.{Accepts}
+use Rattle.uz_check.specs.Acceptance.{Accepts}
 use Rattle.uz_paths.proofs.FindLemmas.{some_both}
 use Rattle.uz_paths.proofs.JoinedLemmas.{some_found_joined}
 use Rattle.uz_paths.proofs.finding.find_by.Goals as goal

@@ -4,7 +4,7 @@ use Rattle.uz_schedule.specs.declared.states.Instance.{Instance}
 use Rattle.uz_search.specs.Following.{Among}
 use Rattle.uz_search.specs.Widened.{widened}
 use Rattle.uz_paths.specs.Linked.{HasName}
-use Rattle.uz_points.proofs.EachLemmas.{each_more, each_all}
+use Rattle.uz_join.proofs.EachLemmas.{each_more, each_all}
 use Rattle.uz_paths.proofs.LinkLemmas.{names_on, still_named}
 use Rattle.uz_paths.proofs.linking.name_all.Goals as goal
 

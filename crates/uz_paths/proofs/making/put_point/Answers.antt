@@ -1,5 +1,5 @@
 use Rattle.std.proofs.Common.{◌∙◌, ◌∷◌, ◌++◌, [], ap}
-use Rattle.uz_points.specs.Points.{point_of as point_for}
+use Rattle.uz_join.specs.Points.{point_of as point_for}
 use Rattle.uz_paths.proofs.making.put_point.Goals as goal
 
 pub returns-clause-own : goal.returns-clause-own

@@ -4,7 +4,7 @@ use Rattle.uz_schedule.specs.Lines.{order_of}
 use Rattle.uz_schedule.specs.Schedule.{response_clocks}
 use Rattle.uz_schedule.specs.declared.states.Rest.{Rest}
 use Rattle.uz_paths.specs.Linked.{ArePoints}
-use Rattle.uz_points.specs.Points.{AreOrdered, vector_after}
+use Rattle.uz_join.specs.Points.{AreOrdered, vector_after}
 use Rattle.uz_paths.proofs.LinkLemmas.{no_points, vectors_next, vectors_end}
 use Rattle.uz_paths.proofs.numbers.vectors_of.Goals as goal
 

@@ -1,6 +1,6 @@
 use Rattle.std.proofs.Common.{◌≡◌, ◌∙◌, ◌+◌, Some, ap, drop, if◌then◌else◌, length, subst, sym}
 use Rattle.std.specs.Prelude.{slice_get}
-use Rattle.uz_hints.specs.Words.{is_half}
+use Rattle.uz_paths.specs.Words.{is_half}
 use Rattle.uz_paths.specs.ProgramOf.{kind_by}
 use Rattle.uz_paths.proofs.MakeLemmas.{written}
 use Rattle.uz_paths.proofs.ProgramLemmas.{one_more}

@@ -1,6 +1,6 @@
 use Rattle.std.proofs.Common.{◌≡◌, ◌<◌, ℕ, Some, drop, length, if◌then◌else◌}
 use Rattle.std.specs.Prelude.{slice_get}
-use Rattle.uz_hints.specs.Words.{is_half}
+use Rattle.uz_paths.specs.Words.{is_half}
 use Rattle.uz_paths.specs.ProgramOf.{kind_by}
 use Rattle.uz_paths.proofs.program.kinds_by.Given as goal
 

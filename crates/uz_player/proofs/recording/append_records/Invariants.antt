@@ -1,7 +1,7 @@
 use Rattle.std.proofs.Common.{◌≡◌, ◌≤◌, [], List, ℕ}
 use Rattle.std.specs.Prelude.{Option, Some}
-use Rattle.uz_machine.specs.PadLine.{PadHistory}
-use Rattle.uz_machine.specs.Turn.{State}
+use Rattle.uz_core.specs.PadLine.{PadHistory}
+use Rattle.uz_core.specs.Turn.{State}
 use Rattle.uz_player.specs.Playing.{Plays, ahead_of, cert_of, limit_of}
 use Rattle.uz_shelf.specs.Files.{FileMap, WritesFile}
 use Rattle.uz_player.proofs.CaptureLaws.{IsWrittenSoFar}

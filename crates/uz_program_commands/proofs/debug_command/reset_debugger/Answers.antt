@@ -1,7 +1,7 @@
 use Rattle.std.proofs.Common.{◌∙◌}
 use Rattle.uz_files.specs.Formats.{SpellsPads}
 use Rattle.uz_files.proofs.ReadingLemmas.{says_seen}
-use Rattle.uz_outcomes.proofs.RunFileLemmas.{preface_without_pads}
+use Rattle.uz_files.proofs.RunFileLemmas.{preface_without_pads}
 use Rattle.uz_program_commands.proofs.DebugLemmas.{starts_debug}
 use Rattle.uz_program_commands.proofs.debug_command.reset_debugger.Goals as goal
 

@@ -1,5 +1,5 @@
 use Rattle.uz_shelf.specs.Faults.{Rose}
-use Rattle.uz_outcomes.specs.RunFiles.{RunPreface}
+use Rattle.uz_files.specs.RunFiles.{RunPreface}
 use Rattle.uz_program_commands.proofs.HintsLemmas.{only_room, told_of}
 use Rattle.uz_program_commands.proofs.hints_command.prepare.Goals as goal
 

@@ -1,7 +1,7 @@
 use Rattle.std.proofs.Common.{sym, subst, ◌+◌, ◌<◌, ◌++◌, length, take, drop, arith}
 use Rattle.std.proofs.lemmas.List.{take_all}
-use Rattle.uz_machine.specs.declared.Edge.{Edge}
-use Rattle.uz_machine.specs.declared.EdgeKind.TheVariants.{Sync}
+use Rattle.uz_core.specs.declared.machine.Edge.{Edge}
+use Rattle.uz_core.specs.declared.machine.EdgeKind.TheVariants.{Sync}
 use Rattle.uz_console.specs.Runs.{AreTimed}
 use Rattle.uz_report.specs.Waves.{Holds}
 use Rattle.uz_scan.specs.Pictures.{NeverFalls, newest_first}

@@ -1,5 +1,5 @@
 use Rattle.std.proofs.Common.{◌++◌, List, drop, take, ℕ}
-use Rattle.uz_machine.specs.declared.Edge.{Edge}
+use Rattle.uz_core.specs.declared.machine.Edge.{Edge}
 use Rattle.uz_console.specs.Runs.{AreTimed}
 use Rattle.uz_report.specs.Waves.{Holds, clock_of}
 use Rattle.uz_scan.specs.Pictures.{NeverFalls, newest_first}

@@ -1,6 +1,6 @@
 use Rattle.std.proofs.Common.{◌≡◌, ◌⊎◌, subst}
 use Rattle.avr_asm.specs.FirstFault.{IsFirstFault}
-use Rattle.avr_operands.specs.declared.errors.AsmWhy.TheVariants.{Memory}
+use Rattle.avr_text.specs.declared.errors.AsmWhy.TheVariants.{Memory}
 use Rattle.avr_macro.specs.Answers.{names_of}
 use Rattle.uz_program_commands.proofs.MacroLemmas.{text_refused}
 use Rattle.uz_program_commands.proofs.macro_commands.assemble_flat.Goals as goal

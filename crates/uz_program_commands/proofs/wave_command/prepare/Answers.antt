@@ -1,5 +1,5 @@
 use Rattle.uz_shelf.specs.Faults.{Rose}
-use Rattle.uz_outcomes.specs.RunFiles.{RunPreface}
+use Rattle.uz_files.specs.RunFiles.{RunPreface}
 use Rattle.uz_program_commands.proofs.WaveLemmas.{only_room, task_heard}
 use Rattle.uz_program_commands.proofs.wave_command.prepare.Goals as goal
 

@@ -1,8 +1,8 @@
 use Rattle.std.specs.Prelude.{OnErr}
 use Rattle.std.proofs.Common.{ℕ, ◌≤◌, refl, append-nil, Result, Ok, Err, ap, sym, subst, ◌∙◌, ◌++◌, ◌+◌, ◌<◌, length, take, drop, get_or, append_assoc, arith}
 use Rattle.std.proofs.lemmas.List.{take_all}
-use Rattle.uz_machine.specs.declared.Edge.{Edge}
-use Rattle.uz_machine.specs.declared.EdgeKind.TheVariants.{Sync}
+use Rattle.uz_core.specs.declared.machine.Edge.{Edge}
+use Rattle.uz_core.specs.declared.machine.EdgeKind.TheVariants.{Sync}
 use Rattle.uz_scan.specs.Pictures.{NeverFalls, end_records, end_records_of, newest_first, record_of, records, row_records, row_records_of}
 use Rattle.uz_scan.specs.Pictures.{shown_by}
 use Rattle.uz_scan.specs.Scanning.{StandsFor}

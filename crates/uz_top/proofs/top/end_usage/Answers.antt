@@ -1,6 +1,6 @@
 use Rattle.std.proofs.Common.{◌∙◌}
 use Rattle.uz_files.specs.declared.status.Status.TheVariants.{Usage}
-use Rattle.uz_help.specs.Topics.{usage_line}
+use Rattle.uz_top.specs.Topics.{usage_line}
 use Rattle.uz_files.proofs.EndingLemmas.{comes_of_line}
 use Rattle.uz_top.proofs.top.end_usage.Goals as goal
 

@@ -3,7 +3,7 @@ use Rattle.std.specs.Prelude.{string_bytes}
 use Rattle.uz_shelf.specs.Faults.{Rose}
 use Rattle.uz_files.specs.Answers.{ComesOf, LoadFault, WriteFault, one_line, outside}
 use Rattle.uz_files.specs.declared.status.Status.TheVariants.{Usage}
-use Rattle.uz_help.specs.Topics.{usage_line}
+use Rattle.uz_top.specs.Topics.{usage_line}
 use Rattle.uz_top.specs.Words.{command_of}
 use Rattle.uz_top.proofs.TellingLemmas.{complete_free, exact_free, same_outcome, tells_answer, tells_nothing, tells_outcome}
 use Rattle.uz_top.proofs.top.uzebox.Goals as goal

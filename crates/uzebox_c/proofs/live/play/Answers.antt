@@ -1,5 +1,5 @@
 use Rattle.std.proofs.Common.{subst}
-use Rattle.uz_frames.specs.Calls.{IsCalled}
+use Rattle.uz_player.specs.Calls.{IsCalled}
 use Rattle.uzebox_c.proofs.live.play.Goals as goal
 
 pub returns-in-Ok-clause-played : goal.returns-in-Ok-clause-played

@@ -1,7 +1,7 @@
 use Rattle.std.proofs.Common.{[], subst}
-use Rattle.uz_machine.specs.Turn.{history_at_reset, state_at_reset}
+use Rattle.uz_core.specs.Turn.{history_at_reset, state_at_reset}
 use Rattle.uz_schedule.specs.Schedule.{response_clocks}
-use Rattle.uz_frames.specs.States.{StandsFor}
+use Rattle.uz_player.specs.States.{StandsFor}
 use Rattle.uzebox_c.proofs.live.reset.Goals as goal
 
 pub returns-in-Ok-clause-at : goal.returns-in-Ok-clause-at

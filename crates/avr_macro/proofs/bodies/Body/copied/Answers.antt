@@ -1,6 +1,6 @@
 use Rattle.std.proofs.Common.{◌∙◌}
 use Rattle.std.specs.List.{slice_range}
-use Rattle.avr_macro_lines.proofs.Slices.{copied_more}
+use Rattle.avr_macro.proofs.Slices.{copied_more}
 use Rattle.avr_macro.proofs.bodies.Body.copied.Goals as goal
 
 pub loop-n-preserved : goal.loop-n-preserved

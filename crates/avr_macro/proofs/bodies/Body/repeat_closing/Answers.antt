@@ -1,9 +1,9 @@
 use Rattle.std.proofs.Common.{sym, subst, ◌∙◌, ap}
 use Rattle.std.specs.List.Sorted.{IsNonDecreasingBy}
-use Rattle.avr_macro_lines.specs.declared.blocks.Blocks.{Blocks}
-use Rattle.avr_macro_lines.specs.declared.directives.Word.TheVariants.{Repeat, EndRepeat}
-use Rattle.avr_macro_lines.specs.AtSigns.{filled}
-use Rattle.avr_macro_lines.proofs.BlockEnds.{blocks_in_order}
+use Rattle.avr_macro.specs.declared.blocks.Blocks.{Blocks}
+use Rattle.avr_macro.specs.declared.directives.Word.TheVariants.{Repeat, EndRepeat}
+use Rattle.avr_macro.specs.AtSigns.{filled}
+use Rattle.avr_macro.proofs.BlockEnds.{blocks_in_order}
 use Rattle.avr_macro.proofs.bodies.Body.repeat_closing.Goals as goal
 
 pub closing_of-requires : goal.closing_of-requires

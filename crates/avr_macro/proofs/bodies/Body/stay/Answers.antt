@@ -1,8 +1,8 @@
 use Rattle.std.proofs.Common.{sym, ◌∙◌, ap}
 use Rattle.std.specs.List.{slice_range}
 use Rattle.avr_macro.specs.declared.bodies.Text.{Text}
-use Rattle.avr_macro_lines.specs.AtSigns.{are_plain}
-use Rattle.avr_macro_lines.proofs.Filled.{filled_stay, plain_stay}
+use Rattle.avr_macro.specs.AtSigns.{are_plain}
+use Rattle.avr_macro.proofs.Filled.{filled_stay, plain_stay}
 use Rattle.avr_macro.proofs.bodies.Body.stay.Goals as goal
 
 pub returns-then-is_call : goal.returns-then-is_call

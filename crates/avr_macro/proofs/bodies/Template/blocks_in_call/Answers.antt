@@ -1,9 +1,9 @@
 use Rattle.std.proofs.Common.{sym, subst, ◌∙◌, ap}
 use Rattle.std.specs.Prelude.{Some}
 use Rattle.avr_macro.specs.declared.bodies.Text.{Text}
-use Rattle.avr_macro_lines.specs.AtSigns.{filled}
-use Rattle.avr_macro_lines.specs.Kinds.{AreBlocks}
-use Rattle.avr_macro_lines.proofs.Filled.{same_blocks}
+use Rattle.avr_macro.specs.AtSigns.{filled}
+use Rattle.avr_macro.specs.Kinds.{AreBlocks}
+use Rattle.avr_macro.proofs.Filled.{same_blocks}
 use Rattle.avr_macro.proofs.bodies.Template.blocks_in_call.Goals as goal
 
 pub returns-then-keeps_directives : goal.returns-then-keeps_directives

@@ -1,8 +1,8 @@
 use Rattle.std.proofs.Common.{List, ℕ, length, map, sym, subst, ◌∙◌, ap}
 use Rattle.avr_macro.specs.declared.bodies.Text.{Text}
-use Rattle.avr_macro_lines.specs.Arguments.{replaced}
-use Rattle.avr_macro_lines.specs.Kinds.{AreBlocks}
-use Rattle.avr_macro_lines.proofs.Slices.{whole_body}
+use Rattle.avr_macro.specs.Arguments.{replaced}
+use Rattle.avr_macro.specs.Kinds.{AreBlocks}
+use Rattle.avr_macro.proofs.Slices.{whole_body}
 use Rattle.avr_macro.proofs.Levels.{as_many}
 use Rattle.avr_macro.proofs.bodies.Template.in_call.Goals as goal
 

@@ -1,7 +1,7 @@
 use Rattle.std.proofs.Common.{◌≡◌, subst, true, false, arith}
 use Rattle.std.specs.Prelude.{nat_le}
 use Rattle.std.proofs.lemmas.Bool.Decides.{nat_tests}
-use Rattle.avr_macro_lines.specs.Blocks.{is_zero}
+use Rattle.avr_macro.specs.Blocks.{is_zero}
 use Rattle.avr_macro.specs.Steps.{Gives, seen_expander}
 use Rattle.avr_macro.specs.Views.{seen_frame}
 use Rattle.avr_macro.proofs.LineMoves.{file_entered}

@@ -1,5 +1,5 @@
 use Rattle.std.specs.Option.{option_map}
-use Rattle.avr_macro_lines.specs.Views.{seen_setting}
+use Rattle.avr_macro.specs.LineViews.{seen_setting}
 use Rattle.avr_macro.specs.Steps.{seen_expander}
 use Rattle.avr_macro.specs.Views.{seen_frame}
 use Rattle.avr_macro.proofs.LineMoves.{line_put}

@@ -1,6 +1,6 @@
 use Rattle.std.proofs.Common.{◌+◌, refl, ap, ◌∙◌, List, ℕ}
 use Rattle.std.specs.List.{slice_range}
-use Rattle.avr_macro_lines.proofs.Slices.{inner_part}
+use Rattle.avr_macro.proofs.Slices.{inner_part}
 use Rattle.avr_macro.proofs.Levels.{same_level}
 use Rattle.avr_macro.proofs.frames.Frame.block.Goals as goal
 

@@ -1,7 +1,7 @@
 use Rattle.std.proofs.Common.{◌∙◌, ap, List, ℕ}
-use Rattle.avr_macro_lines.specs.declared.directives.Word.TheVariants.{Macro, EndMacro}
-use Rattle.avr_macro_lines.specs.Ends.{blocks_from, closing_at}
-use Rattle.avr_macro_lines.proofs.BlockEnds.{are_told, ends_within, macros_apart}
+use Rattle.avr_macro.specs.declared.directives.Word.TheVariants.{Macro, EndMacro}
+use Rattle.avr_macro.specs.Ends.{blocks_from, closing_at}
+use Rattle.avr_macro.proofs.BlockEnds.{are_told, ends_within, macros_apart}
 use Rattle.avr_macro.proofs.frames.Frame.macro_end.Goals as goal
 
 pub returns-clause-place : goal.returns-clause-place

@@ -1,5 +1,5 @@
 use Rattle.std.proofs.Common.{refl}
-use Rattle.avr_macro_lines.proofs.Slices.{after_some}
+use Rattle.avr_macro.proofs.Slices.{after_some}
 use Rattle.avr_macro.proofs.Levels.{same_level}
 use Rattle.avr_macro.proofs.frames.Frame.passed.Goals as goal
 

@@ -1,5 +1,5 @@
 use Rattle.std.proofs.Common.{◌≡◌, ◌<◌, ◌≤◌, [], ◌∷◌, ◌++◌, ◌∙◌, ap, arith, length, subst, sym}
-use Rattle.uz_machine.specs.Run.{edges_until}
+use Rattle.uz_core.specs.Run.{edges_until}
 use Rattle.uz_console.specs.Consoles.{clock_of}
 use Rattle.uz_console.specs.Runs.{AreTimed}
 use Rattle.uz_console.proofs.EdgeTimes.{page_timed_on, timed_later}

@@ -1,5 +1,5 @@
 use Rattle.std.proofs.Common.{◌<◌, ◌≤◌, [], ◌∷◌, ◌∙◌, ap, refl, arith}
-use Rattle.uz_machine.specs.Run.{edges_until}
+use Rattle.uz_core.specs.Run.{edges_until}
 use Rattle.uz_console.specs.Consoles.{clock_of}
 use Rattle.uz_console.proofs.ApproachLemmas.{enters, never_over, never_stopped, unentered_more, unentered_quietly}
 use Rattle.uz_console.proofs.EdgeTimes.{timed_on}

@@ -1,6 +1,6 @@
 use Rattle.std.proofs.Common.{ap, refl, ◌∙◌}
 use Rattle.std.proofs.lemmas.Bool.{false≢true}
-use Rattle.uz_machine.specs.Timer.{Timer}
+use Rattle.uz_core.specs.Timer.{Timer}
 use Rattle.uz_console.specs.Consoles.{state_of}
 use Rattle.uz_console.specs.Entering.{position_of}
 use Rattle.uz_console.proofs.EntryLaws.{none_waits, rest_found, rest_missed}

@@ -1,5 +1,5 @@
 use Rattle.std.proofs.Common.{ℕ, ◌<◌}
-use Rattle.uz_machine.specs.Core.{register}
+use Rattle.uz_core.specs.Core.{register}
 use Rattle.uz_console.specs.Consoles.{state_of}
 use Rattle.uz_console.specs.Entry.{IsIn, ends_at}
 use Rattle.uz_console.proofs.console.Console.registers_match.Given as goal

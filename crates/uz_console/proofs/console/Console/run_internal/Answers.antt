@@ -1,7 +1,7 @@
 use Rattle.std.proofs.Common.{◌≡◌, ℕ, ◌+◌, ◌<◌, ◌≤◌, false, ◌∙◌, ap, arith}
 use Rattle.uz_schedule.specs.Schedule.{response_clocks}
-use Rattle.uz_machine.specs.Space.{Space, space_after}
-use Rattle.uz_machine.specs.Turn.{State}
+use Rattle.uz_core.specs.Space.{Space, space_after}
+use Rattle.uz_core.specs.Turn.{State}
 use Rattle.uz_pads.specs.declared.pads.Pads.{Pads}
 use Rattle.uz_ports.specs.Boards.{space_of, clock_of as board_clock}
 use Rattle.uz_console.specs.Consoles.{state_of}

@@ -1,6 +1,6 @@
 use Rattle.std.proofs.Common.{rules, ◌≢◌}
-use Rattle.uz_machine.specs.declared.Effect.TheVariants.{Stop}
-use Rattle.uz_machine.specs.Effects.{effect_of}
+use Rattle.uz_core.specs.declared.machine.Effect.TheVariants.{Stop}
+use Rattle.uz_core.specs.Effects.{effect_of}
 use Rattle.uz_core.proofs.Decoding.{decoded_fits, instruction_at}
 use Rattle.uz_core.proofs.Running.{running_is}
 use Rattle.uz_core.proofs.decoded.Reading.of.Goals as goal

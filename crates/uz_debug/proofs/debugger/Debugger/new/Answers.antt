@@ -1,5 +1,5 @@
 use Rattle.uz_schedule.specs.Schedule.{response_clocks}
-use Rattle.uz_machine.specs.Turn.{state_at_reset, history_at_reset}
+use Rattle.uz_core.specs.Turn.{state_at_reset, history_at_reset}
 use Rattle.uz_pads.specs.Pads.{pairs_of}
 use Rattle.uz_debug.proofs.DebuggerLemmas.{begins}
 use Rattle.uz_debug.proofs.debugger.Debugger.new.Goals as goal

@@ -1,7 +1,7 @@
 use Rattle.std.proofs.Common.{[], refl}
 use Rattle.std.proofs.lemmas.List.Elements.{All-nil, All-same}
 use Rattle.uz_schedule.specs.Schedule.{response_clocks}
-use Rattle.uz_machine.specs.Turn.{state_at_reset, history_at_reset}
+use Rattle.uz_core.specs.Turn.{state_at_reset, history_at_reset}
 use Rattle.uz_pads.specs.Pads.{pairs_of}
 use Rattle.uz_debug.specs.Kept.{IsKept}
 use Rattle.uz_debug.proofs.timeline.Timeline.new.Goals as goal

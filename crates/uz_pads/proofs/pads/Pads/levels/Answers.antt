@@ -1,5 +1,5 @@
 use Rattle.std.proofs.Common.{subst, sym}
-use Rattle.uz_machine.specs.PadLine.{with_level}
+use Rattle.uz_core.specs.PadLine.{with_level}
 use Rattle.uz_pads.specs.Pads.{StandsFor}
 use Rattle.uz_pads.proofs.History.{stands_after}
 use Rattle.uz_pads.proofs.pads.Pads.levels.Goals as goal

@@ -1,7 +1,7 @@
 use Rattle.std.proofs.Common.{◌<◌, ◌∙◌, ◌++◌, List, drop, ap, sym, subst, refl}
-use Rattle.uz_machine.specs.declared.Edge.{Edge}
-use Rattle.uz_machine.specs.PadLine.{PadHistory}
-use Rattle.uz_machine.specs.Turn.{State}
+use Rattle.uz_core.specs.declared.machine.Edge.{Edge}
+use Rattle.uz_core.specs.PadLine.{PadHistory}
+use Rattle.uz_core.specs.Turn.{State}
 use Rattle.uz_console.specs.Consoles.{StandsFor, clock_of}
 use Rattle.uz_console.specs.declared.console.Console.{Console}
 use Rattle.uz_console.specs.Runs.{AreTimed}

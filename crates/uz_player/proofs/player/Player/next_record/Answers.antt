@@ -1,7 +1,7 @@
 use Rattle.std.proofs.Common.{[], ◌≡◌, ◌+◌, ◌<◌, ◌∙◌, ◌∷◌, List, None, Some, append-nil, ap, drop, get_or, length, sym, subst, refl, arith}
 use Rattle.std.proofs.lemmas.List.{drop_more}
-use Rattle.uz_machine.specs.declared.Edge.{Edge}
-use Rattle.uz_machine.specs.declared.EdgeKind.TheVariants.{Sync}
+use Rattle.uz_core.specs.declared.machine.Edge.{Edge}
+use Rattle.uz_core.specs.declared.machine.EdgeKind.TheVariants.{Sync}
 use Rattle.uz_player.specs.Playing.{Plays}
 use Rattle.uz_player.proofs.PlayerLaws.{record_comes, takes_edge}
 use Rattle.uz_player.proofs.player.Player.next_record.Goals as goal

@@ -1,5 +1,5 @@
 use Rattle.std.proofs.Common.{◌∙◌, ap, if◌then◌else◌}
-use Rattle.uz_machine.specs.Core.{is_core_address}
+use Rattle.uz_core.specs.Core.{is_core_address}
 use Rattle.uz_ports.specs.Boards.{space_of}
 use Rattle.uz_ports.proofs.PadBytes.{byte_over}
 use Rattle.uz_ports.proofs.board.Board.byte.Goals as goal

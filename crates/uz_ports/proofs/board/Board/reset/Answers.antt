@@ -1,6 +1,6 @@
 use Rattle.std.proofs.Common.{◌∙◌, List, ap, ℕ, replicate, rules}
-use Rattle.uz_machine.specs.Space.{Space}
-use Rattle.uz_machine.specs.Timer.{Timer}
+use Rattle.uz_core.specs.Space.{Space}
+use Rattle.uz_core.specs.Timer.{Timer}
 use Rattle.uz_pads.specs.declared.pads.Pads.{Pads}
 use Rattle.uz_ports.proofs.board.Board.reset.Goals as goal
 

@@ -1,5 +1,5 @@
 use Rattle.std.proofs.Common.{◌≡◌, ◌<◌, ◌^◌, ◌∷◌, refl, sym, ap, subst, arith}
-use Rattle.uz_machine.specs.declared.Edge.{Edge}
+use Rattle.uz_core.specs.declared.machine.Edge.{Edge}
 use Rattle.uz_scan.specs.Lines.{level_brought}
 use Rattle.uz_scan.specs.Pictures.{pixel_brought, sound_brought, shown_by}
 use Rattle.uz_scan.specs.Scanning.{StandsFor}

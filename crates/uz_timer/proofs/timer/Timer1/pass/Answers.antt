@@ -1,5 +1,5 @@
 use Rattle.std.proofs.Common.{rules, ◌<◌, ◌∙◌, ap}
-use Rattle.uz_machine.specs.Timer.{Timer, timer_after}
+use Rattle.uz_core.specs.Timer.{Timer, timer_after}
 use Rattle.uz_timer.proofs.CountedDown.{counted_down}
 use Rattle.uz_timer.proofs.timer.Timer1.pass.Goals as goal
 

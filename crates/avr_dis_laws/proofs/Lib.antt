@@ -1,2 +1,0 @@
-pub mod EachRow
-pub mod Listed

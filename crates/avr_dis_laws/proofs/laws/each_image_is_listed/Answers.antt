@@ -1,5 +1,0 @@
-use Rattle.avr_dis_laws.proofs.Listed.{image_listed}
-use Rattle.avr_dis_laws.proofs.laws.each_image_is_listed.Goals as goal
-
-pub returns : goal.returns
-returns c = image_listed

@@ -1,8 +1,0 @@
-use Rattle.std.proofs.Common.{◌≡◌, drop}
-use Rattle.std.specs.Prelude.{max}
-use Rattle.avr_macro_lines.specs.AtSigns.{needed_from, needed_in}
-use Rattle.avr_macro_lines.proofs.at_signs.needed_in.Given as goal
-
--- what is needed so far, and what the rest needs
-abbrev pub invariant-loop-byte : goal.invariant-loop-byte
-invariant-loop-byte l = max l.needed (needed_from l.named (drop l.byte-index l.line)) ≡ needed_in l.line

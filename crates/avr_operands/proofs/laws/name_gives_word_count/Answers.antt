@@ -1,5 +1,0 @@
-use Rattle.avr_operands.proofs.WordLemmas.{words_of_made}
-use Rattle.avr_operands.proofs.laws.name_gives_word_count.Goals as goal
-
-pub returns : goal.returns
-returns c = words_of_made

@@ -1,0 +1,36 @@
+use Rattle.std.proofs.Common.{refl}
+use Rattle.avr_table.specs.declared.Instr.TheVariants as i
+use Rattle.avr_text.specs.Fields.{field}
+use Rattle.avr_text.specs.Instructions.{store}
+use Rattle.avr_text.specs.declared.pointers.Pointer.TheVariants.{X, Y, Z}
+use Rattle.avr_text.specs.declared.pointers.Step.TheVariants.{Plain, Increment, Decrement}
+use Rattle.avr_text.proofs.RowTold.{pointer_told}
+use Rattle.avr_text.proofs.instructions.store.Goals as goal
+
+pub returns-in-Plain : goal.returns-in-Plain
+returns-in-Plain c =
+    pointer_told i.StX (field 5) store X Plain c.ranges.r c.in-X.is c.in-Plain.is c.field.ensures refl
+
+pub returns-in-Increment : goal.returns-in-Increment
+returns-in-Increment c =
+    pointer_told i.StXInc (field 5) store X Increment c.ranges.r c.in-X.is c.in-Increment.is c.field-in-Increment.ensures refl
+
+pub returns-in-Decrement : goal.returns-in-Decrement
+returns-in-Decrement c =
+    pointer_told i.StXDec (field 5) store X Decrement c.ranges.r c.in-X.is c.in-Decrement.is c.field-in-Decrement.ensures refl
+
+pub returns-in-Increment-step : goal.returns-in-Increment-step
+returns-in-Increment-step c =
+    pointer_told i.StYInc (field 5) store Y Increment c.ranges.r c.in-Y.is c.in-Increment-step.is c.field-in-Increment-step.ensures refl
+
+pub returns-in-Decrement-step : goal.returns-in-Decrement-step
+returns-in-Decrement-step c =
+    pointer_told i.StYDec (field 5) store Y Decrement c.ranges.r c.in-Y.is c.in-Decrement-step.is c.field-in-Decrement-step.ensures refl
+
+pub returns-in-Increment-step-2 : goal.returns-in-Increment-step-2
+returns-in-Increment-step-2 c =
+    pointer_told i.StZInc (field 5) store Z Increment c.ranges.r c.in-Z.is c.in-Increment-step-2.is c.field-in-Increment-step-2.ensures refl
+
+pub returns-in-Decrement-step-2 : goal.returns-in-Decrement-step-2
+returns-in-Decrement-step-2 c =
+    pointer_told i.StZDec (field 5) store Z Decrement c.ranges.r c.in-Z.is c.in-Decrement-step-2.is c.field-in-Decrement-step-2.ensures refl

@@ -1,5 +1,0 @@
-pub mod FlagNames
-pub mod Grammar
-pub mod Values
-pub mod Why
-pub mod WhyNames

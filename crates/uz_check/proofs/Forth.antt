@@ -1,0 +1,380 @@
+-- The turn that is an instruction but RETI.
+use Rattle.std.proofs.Common.{◌≡◌, ◌⊎◌, inl, inr, All, Contains, ℕ, suc, ◌+◌, ◌-◌, ◌%◌, ◌<◌, ◌≤◌, false, List, [], refl, sym, ◌∙◌, ap}
+use Rattle.std.proofs.Common.{subst, arith}
+use Rattle.std.specs.Prelude.{Some, None, ◌||◌}
+use Rattle.std.specs.Ordering.{nat_cmp}
+use Rattle.std.specs.FinMap.{FinMap}
+use Rattle.std.proofs.Math.Bool.{or-true}
+use Rattle.std.proofs.lemmas.Bool.Decides.{leb_tells}
+use Rattle.uz_schedule.specs.declared.kinds.Kind.{Kind}
+use Rattle.uz_schedule.specs.declared.kinds.Kind.TheVariants.{Main, Handler, Alone}
+use Rattle.uz_schedule.specs.declared.states.Rest.{Rest}
+use Rattle.uz_schedule.specs.declared.states.Instance.{Instance}
+use Rattle.uz_schedule.specs.declared.certificate.Cert.{Cert}
+use Rattle.uz_schedule.specs.Schedule.{At, length_of, next_line, event_at, level_at}
+use Rattle.uz_core.specs.declared.machine.Edge.{Edge}
+use Rattle.uz_core.specs.Core.{Core}
+use Rattle.uz_core.specs.Timer.{count_after, matches_within}
+use Rattle.uz_core.specs.PadLine.{PadHistory}
+use Rattle.uz_core.specs.Space.{plain_byte}
+use Rattle.uz_core.specs.Turn.{State, sync_level}
+use Rattle.uz_core.specs.StateRange.{IsState}
+use Rattle.uz_rules.specs.declared.step.Exit.{Exit}
+use Rattle.uz_rules.specs.declared.step.Step.{Step}
+use Rattle.uz_rules.specs.MemoryMeets.{Untouched, depth_below}
+use Rattle.uz_rules.specs.Kinds.{cell_place}
+use Rattle.uz_rules.specs.Kinds.{is_main, is_handler}
+use Rattle.uz_rules.specs.Memory.{depth_of}
+use Rattle.uz_rules.specs.Events.{shown, shown_at, listed}
+use Rattle.uz_rules.specs.Emission.{level_after}
+use Rattle.uz_rules.specs.Step.{successor}
+use Rattle.uz_schedule.specs.Lines.{line_after, clock_after}
+use Rattle.uz_rules.specs.Meets.{LevelMeets}
+use Rattle.uz_rules.specs.OneStep.{MainTimer as RunsOn, OneStep}
+use Rattle.uz_check.specs.Claim.{scheduled, InTime}
+use Rattle.uz_schedule.specs.Lines.{order_of}
+use Rattle.uz_schedule.proofs.Starts.{frame_some}
+use Rattle.uz_rules.specs.EdgeRule.{position_of}
+use Rattle.uz_check.proofs.Fits.{IsPlaced}
+use Rattle.uz_check.proofs.Premises.{IsCovered, EdgeHolds, Succeeds, LocalHolds, RestHolds, Premises}
+use Rattle.uz_check.specs.Ways.{IsPlain, Spends}
+use Rattle.uz_check.specs.Invariant.{Stands, RunsAlone, RunsMain, RunsHandler, AloneRuns, MainRuns, HandlerRuns, IsKept, Before, Due}
+use Rattle.uz_check.proofs.Turned.{Turned}
+use Rattle.uz_schedule.proofs.Places.{at_more, at_same, at_next, at_after, event_here, level_here}
+use Rattle.uz_check.proofs.Fitting.{is_placed, line_long}
+use Rattle.uz_check.proofs.Timer.{count_within, count_over, match_within, match_over}
+use Rattle.uz_check.proofs.Quiet.{scheduled_mod, scheduled_none, level_along, last_in, last_in_listed}
+use Rattle.uz_check.proofs.Cells.{mains_alone, handlers_alone, cells_same}
+use Rattle.uz_check.proofs.BoxesCovered.{place_tells, lands}
+
+some_same : (a b : ℕ) → Some a ≡ Some b → a ≡ b
+some_same a b e = cc
+
+-- an instance's level is the schedule's, wherever it stands
+pub level_of_instance : (cert : Cert) (p v : ℕ) (inst : Instance) → IsPlaced cert inst → level_at cert.schedule p ≡ Some v
+    → At cert.schedule p inst.line inst.clock → v ≡ inst.level
+level_of_instance cert p v inst h level place = some_same v inst.level
+    (sym level ∙ (level_here cert.schedule p inst.line inst.clock place ∙ h.level))
+
+-- The place of a result
+
+placed_line : (cert : Cert) (inst : Instance) (step : Step) (exit : Exit) → is_main inst.kind ≡ false
+    → (successor (order_of cert.schedule) inst step exit).line ≡ line_after (order_of cert.schedule) inst.line (inst.clock + exit.clocks)
+placed_line cert inst step exit e = rw e refl
+
+placed_clock : (cert : Cert) (inst : Instance) (step : Step) (exit : Exit) → is_main inst.kind ≡ false
+    → (successor (order_of cert.schedule) inst step exit).clock ≡ clock_after (order_of cert.schedule) inst.line (inst.clock + exit.clocks)
+placed_clock cert inst step exit e = rw e refl
+
+placed_level : (cert : Cert) (inst : Instance) (step : Step) (exit : Exit) → is_main inst.kind ≡ false
+    → (successor (order_of cert.schedule) inst step exit).level ≡ level_after step.emit (inst.level % 2)
+placed_level cert inst step exit e = rw e refl
+
+pub level_is : (kind : Kind) (level sync : ℕ) → is_main kind ≡ false → LevelMeets kind level sync → sync ≡ level
+level_is Main level sync e h = absurd cc
+level_is Handler level sync e h = h
+level_is Alone level sync e h = h
+
+-- a level is one bit
+bit_level : (v level : ℕ) → v % 2 ≡ level → v % 2 ≡ level % 2
+bit_level v level e = omega (arith, e)
+
+-- Outside main: the events are the schedule's, and so is the level
+pub record Keeps (cert : Cert) (p : ℕ) (s new : State PadHistory) (edges : List Edge) (c line clock : ℕ) : Type 0 where
+  pub level : level_at cert.schedule (p + c) ≡ Some (sync_level new.space)
+  pub place : At cert.schedule (p + c) line clock
+  pub exact : shown edges ≡ scheduled (event_at cert.schedule) p s.clock c
+
+keeps : (image : FinMap nat_cmp ℕ) (cert : Cert) (p : ℕ) (s new : State PadHistory) (edges : List Edge) (inst : Instance) (step : Step)
+    (exit : Exit) → Premises image cert → is_main inst.kind ≡ false
+    → level_at cert.schedule p ≡ Some (sync_level s.space) → At cert.schedule p inst.line inst.clock
+    → scheduled (event_at cert.schedule) (position_of cert.schedule inst) s.clock exit.clocks ≡ listed
+    (shown_at step.emit (s.clock + exit.clocks)) → shown edges ≡ listed (shown_at step.emit (s.clock + exit.clocks))
+    → LevelMeets inst.kind inst.level (sync_level s.space) → LevelMeets inst.kind (successor (order_of cert.schedule) inst step exit).level
+    (sync_level new.space)
+    → Keeps cert p s new edges exit.clocks (successor (order_of cert.schedule) inst step exit).line
+    (successor (order_of cert.schedule) inst step exit).clock
+keeps image cert p s new edges inst step exit h other level place edge emits before after =
+    let z = cert.schedule in
+    let c = exit.clocks in
+    let stretch : scheduled (event_at z) p s.clock c ≡ listed (shown_at step.emit (s.clock + c)) = scheduled_mod z p (position_of z inst)
+    s.clock c place ∙ edge in
+    let old : sync_level s.space ≡ inst.level = level_is inst.kind inst.level (sync_level s.space) other before in
+    let now : sync_level new.space ≡ level_after step.emit (inst.level % 2) = level_is inst.kind _ (sync_level new.space) other after
+    ∙ placed_level cert inst step exit other in
+    let sync : level_after step.emit (sync_level s.space) ≡ sync_level new.space = ap (level_after step.emit)
+    (bit_level (plain_byte s.space 0x25) inst.level old) ∙ sym now in
+    record {
+      level = level_along z p s.clock c (frame_some z h.limits.schedule)
+          ∙ (ap (λ es. last_in es (level_at z p)) stretch
+          ∙ (ap (last_in (listed (shown_at step.emit (s.clock + c)))) level
+          ∙ (last_in_listed step.emit (s.clock + c) (sync_level s.space) ∙ ap (λ v. Some v) sync)));
+      place = at_same z (p + c) _ (successor (order_of z) inst step exit).line _ (successor (order_of z) inst step exit).clock
+          (sym (placed_line cert inst step exit other)) (sym (placed_clock cert inst step exit other))
+          (at_after z (p + c) inst.line (inst.clock + c) (at_more z p inst.line inst.clock c place));
+      exact = emits ∙ sym stretch;
+    }
+
+-- what every turn keeps
+pub record Carries (image : FinMap nat_cmp ℕ) (edges : List Edge) (new : State PadHistory) : Type 0 where
+  pub is_state : IsState new
+  pub flash : new.image ≡ image
+  pub entries : All (λ e. InTime e.kind) edges
+
+-- outside main, where the result lands
+record Outside (cert : Cert) (kind : Kind) (o : Core) (d p : ℕ) (s new : State PadHistory) (edges : List Edge) (c : ℕ) : Type 0 where
+  inst : Instance
+  stands : Stands cert kind o d inst new
+  place : At cert.schedule (p + c) inst.line inst.clock
+  level : level_at cert.schedule (p + c) ≡ Some (sync_level new.space)
+  exact : shown edges ≡ scheduled (event_at cert.schedule) p s.clock c
+
+outside : (image : FinMap nat_cmp ℕ) (cert : Cert) (p : ℕ) (s : State PadHistory) (kind : Kind) (inst : Instance) (o : Core) (d : ℕ)
+    (edges : List Edge) (new : State PadHistory) (step : Step) → Premises image cert → IsState new → is_main kind ≡ false
+    → level_at cert.schedule p ≡ Some (sync_level s.space) → Stands cert kind o d inst s → At cert.schedule p inst.line inst.clock
+    → ((exit : Exit) → Contains step.exits.items exit → 1 ≤ exit.clocks → scheduled (event_at cert.schedule)
+    (position_of cert.schedule inst) s.clock exit.clocks ≡ listed (shown_at step.emit (s.clock + exit.clocks)))
+    → ((exit : Exit) → Contains step.exits.items exit → IsCovered cert (successor (order_of cert.schedule) inst step exit))
+    → (one : OneStep cert.head (order_of cert.schedule) inst o d step s edges new) → Outside cert kind o d p s new edges one.exit.clocks
+outside image cert p s kind inst o d edges new step h then_state other level stands place edge covers one =
+    let r = successor (order_of cert.schedule) inst step one.exit in
+    let not_main : is_main inst.kind ≡ false = ap is_main stands.of_kind ∙ other in
+    let kept = keeps image cert p s new edges inst step one.exit h not_main level place (edge one.exit one.is_exit one.at_least_one)
+    one.events stands.meets.level one.meets.level in
+    let covered = covers one.exit one.is_exit in
+    let b = covered.inst in
+    let fits = is_placed cert h.limits covered.id covered.l covered.c b covered.is in
+    let same = place_tells r b covered.inside in
+    let there = at_same cert.schedule (p + one.exit.clocks) r.line b.line r.clock b.clock same.line same.clock kept.place in
+    let sync = level_of_instance cert (p + one.exit.clocks) (sync_level new.space) b fits kept.level there in
+    record {
+      inst = b;
+      stands = lands h.laws.inside cert kind o d r new then_state stands.old stands.of_kind one.meets covered (inr sync);
+      place = there;
+      level = kept.level;
+      exact = kept.exact;
+    }
+
+-- a program that is alone goes on
+pub alone_forth : (image : FinMap nat_cmp ℕ) (cert : Cert) (p : ℕ) (s : State PadHistory) (inst : Instance) (o : Core) (edges : List Edge)
+    (new : State PadHistory) (local : LocalHolds image cert inst)
+    → Premises image cert → Carries image edges new → All (λ e. IsPlain e.kind) edges → level_at cert.schedule p ≡ Some (sync_level s.space)
+    → (runs : AloneRuns cert p s inst o) → local.step.back ≡ false
+    → OneStep cert.head (order_of cert.schedule) inst o 0 local.step s edges new → Turned image cert p s (RunsAlone inst o) edges new
+alone_forth image cert p s inst o edges new local h carries plain level runs forth one =
+    let covers : Succeeds cert inst local.step false = subst (Succeeds cert inst local.step) forth local.successor in
+    let edge : EdgeHolds image cert Alone inst local.step = subst (λ k. EdgeHolds image cert k inst local.step) runs.stands.of_kind
+    local.edge in
+    let to = outside image cert p s Alone inst o 0 edges new local.step h carries.is_state refl level runs.stands runs.place
+    (λ exit has some. edge exit s.clock has some) covers one in
+    record {
+      follows = record {
+        clocks = one.exit.clocks;
+        some = one.at_least_one;
+        clock = one.clock;
+        meets = record {
+          is_state = carries.is_state;
+          flash = carries.flash;
+          level = to.level;
+          running = RunsAlone to.inst o;
+          runs = record { stands = to.stands; place = to.place };
+        };
+        exact = to.exact;
+        entries = carries.entries;
+      };
+      goes = plain;
+    }
+
+-- the handler goes on, and leaves what was interrupted
+still_kept : (cert : Cert) (d : ℕ) (inst : Instance) (was s new : State PadHistory) → inst.kind ≡ Handler → s.core.sp + depth_of
+    inst + depth_below inst.kind d ≡ cert.head.hi
+    → Untouched cert.head inst.kind (s.core.sp + depth_of inst) s.space.bytes new.space.bytes → IsKept cert.head d was s → IsKept cert.head
+    d was new
+still_kept cert d inst was s new kind depth leaves kept =
+    let low : s.core.sp + depth_of inst + (d + 2) ≡ cert.head.hi = subst (λ k. s.core.sp + depth_of inst + depth_below k d ≡ cert.head.hi)
+    kind depth in
+    record {
+      sp = kept.sp;
+      stack = λ a above below. leaves.above a (omega (arith, above, low)) below ∙ kept.stack a above below;
+      cells = λ a j e.
+          let apart = mains_alone cert.head a j e in
+          leaves.cells a apart.range apart.there (subst (λ k. cell_place cert.head k a ≡ None) (sym kind) apart.none) ∙ kept.cells a j e;
+    }
+
+pub handler_forth : (image : FinMap nat_cmp ℕ) (cert : Cert) (p : ℕ) (s : State PadHistory) (inst main : Instance) (o : Core)
+    (was : State PadHistory) (edges : List Edge) (new : State PadHistory) (local : LocalHolds image cert inst)
+    → Premises image cert → Carries image edges new → All (λ e. IsPlain e.kind) edges → level_at cert.schedule p ≡ Some (sync_level s.space)
+    → HandlerRuns cert p s inst main o was → local.step.back ≡ false
+    → OneStep cert.head (order_of cert.schedule) inst was.core (depth_of main) local.step s edges new → Turned image cert p s
+    (RunsHandler inst main o was) edges new
+handler_forth image cert p s inst main o was edges new local h carries plain level runs forth one =
+    let covers : Succeeds cert inst local.step false = subst (Succeeds cert inst local.step) forth local.successor in
+    let edge : EdgeHolds image cert Handler inst local.step = subst (λ k. EdgeHolds image cert k inst local.step) runs.stands.of_kind
+    local.edge in
+    let to = outside image cert p s Handler inst was.core (depth_of main) edges new local.step h carries.is_state refl level runs.stands
+    runs.place (λ exit has some. edge exit s.clock has some) covers one in
+    record {
+      follows = record {
+        clocks = one.exit.clocks;
+        some = one.at_least_one;
+        clock = one.clock;
+        meets = record {
+          is_state = carries.is_state;
+          flash = carries.flash;
+          level = to.level;
+          running = RunsHandler to.inst main o was;
+          runs = record {
+            stands = to.stands;
+            place = to.place;
+            below_top = one.below_top (ap is_handler runs.stands.of_kind);
+            was_state = runs.was_state;
+            main_stands = runs.main_stands;
+            kept = still_kept cert (depth_of main) inst was s new runs.stands.of_kind runs.stands.meets.memory.depth one.untouched
+                runs.kept;
+          };
+        };
+        exact = to.exact;
+        entries = carries.entries;
+      };
+      goes = plain;
+    }
+
+-- Main
+
+-- its stretch has no event
+main_quiet : (cert : Cert) (p t k c : ℕ) (rest : Rest) → RestHolds cert rest → At cert.schedule p rest.line t → rest.clock ≤ t
+    → t < length_of cert.schedule rest.line → c ≤ 4 → scheduled (event_at cert.schedule) p k c ≡ []
+main_quiet cert p t k c rest rule place rested within few =
+    let z = cert.schedule in
+    scheduled_none (event_at z) p k c (λ i some most.
+    let here = at_more z p rest.line t i place in
+    elim (leb_tells (suc (t + i)) (length_of z rest.line)) [
+      | inl before ↦ event_here z (p + i) rest.line (t + i) here ∙ rule.quiet (t + i) (omega (arith, rested, some)) before.1
+      | inr past ↦
+          let over = t + i - length_of z rest.line in
+          let there : At z (p + i) rest.line (length_of z rest.line + over) = at_same z (p + i) rest.line rest.line (t + i) _ refl
+          (omega (arith, past.1)) here in
+          event_here z (p + i) (next_line z rest.line) over (at_next z (p + i) rest.line over there)
+          ∙ rule.quiet_next over (omega (arith, past.1, within, few, most))
+    ])
+
+-- the timer after c clocks of main, where the top is the line's last clock
+record MainTimer (length : ℕ) (s new : State PadHistory) (c : ℕ) : Type 0 where
+  top : suc s.space.timer.top ≡ length
+  count : new.space.timer.count ≡ count_after s.space.timer.count s.space.timer.top c
+  flag : new.space.timer.matched ≡ (s.space.timer.matched || matches_within s.space.timer.count s.space.timer.top c)
+
+spends : (length c : ℕ) (s new : State PadHistory) → MainTimer length s new c → 9 ≤ length → c ≤ 4 → s.space.timer.matched ≡ false
+    → s.space.timer.count < length → Spends length s new c
+spends length c s new m long few clear within =
+    let t = s.space.timer in
+    elim (leb_tells (suc (t.count + c)) length) [
+      | inl before ↦
+          let inner : t.count + c ≤ t.top = omega (arith, m.top, before.1) in
+          inl (
+            m.flag ∙ (ap (λ b. b || matches_within t.count t.top c) clear ∙ match_within t.count t.top c inner),
+            m.count
+                ∙ count_within t.count t.top c inner,
+          )
+      | inr past ↦
+          let first : t.count ≤ t.top = omega (arith, within, m.top) in
+          let over : t.top + 1 ≤ t.count + c = omega (arith, past.1, m.top) in
+          let count : new.space.timer.count ≡ t.count + c - (t.top + 1) = m.count ∙ count_over t.count t.top c first over
+          (omega (arith, m.top, long, few)) in
+          inr (
+            m.flag ∙ (ap (λ b. t.matched || b) (match_over t.count t.top c first over) ∙ or-true t.matched),
+            omega (arith, count, over, m.top),
+          )
+    ]
+
+-- so it tells where main is
+main_phase : (cert : Cert) (p c : ℕ) (s new : State PadHistory) (rest : Rest) → Before cert p s rest → c ≤ 4 → new.is_owed ≡ false
+    → Spends (length_of cert.schedule rest.line) s new c → new.space.timer.count < length_of cert.schedule rest.line
+    → Before cert (p + c) new rest ⊎ Due cert (p + c) new rest
+main_phase cert p c s new rest before few settled (inl within) short =
+    let z = cert.schedule in
+    let here = at_more z p rest.line s.space.timer.count c before.place in
+    inl (record {
+      place = at_same z (p + c) rest.line rest.line (s.space.timer.count + c) new.space.timer.count refl (sym within.1) here;
+      rested = omega (arith, before.rested, within.1);
+      within = short;
+      clear = within.0;
+    })
+main_phase cert p c s new rest before few settled (inr past) short =
+    let z = cert.schedule in
+    let here = at_more z p rest.line s.space.timer.count c before.place in
+    inr (record {
+      place = at_next z (p + c) rest.line new.space.timer.count (at_same z (p + c) rest.line rest.line (s.space.timer.count + c) _ refl
+          (omega (arith, past.1)) here);
+      early = omega (arith, past.1, before.within, few);
+      set = past.0;
+      settled = settled;
+    })
+
+short_count : (length c : ℕ) (s new : State PadHistory) → MainTimer length s new c → 9 ≤ length → c ≤ 4 → s.space.timer.count < length
+    → new.space.timer.count < length
+short_count length c s new m long few within =
+    let t = s.space.timer in
+    elim (leb_tells (suc (t.count + c)) length) [
+      | inl before ↦
+          let inner : t.count + c ≤ t.top = omega (arith, m.top, before.1) in
+          omega (arith, m.count ∙ count_within t.count t.top c inner, before.1)
+      | inr past ↦
+          let first : t.count ≤ t.top = omega (arith, within, m.top) in
+          let over : t.top + 1 ≤ t.count + c = omega (arith, past.1, m.top) in
+          let count : new.space.timer.count ≡ t.count + c - (t.top + 1) = m.count ∙ count_over t.count t.top c first over
+          (omega (arith, m.top, long, few)) in
+          omega (arith, count, within, few, long, m.top)
+    ]
+
+-- main goes on
+pub main_forth : (image : FinMap nat_cmp ℕ) (cert : Cert) (p : ℕ) (s : State PadHistory) (inst : Instance) (o : Core) (rest : Rest)
+    (edges : List Edge) (new : State PadHistory) (local : LocalHolds image cert inst)
+    → Premises image cert → Carries image edges new → All (λ e. IsPlain e.kind) edges → level_at cert.schedule p ≡ Some (sync_level s.space)
+    → (runs : MainRuns cert p s inst o rest) → Before cert p s rest → local.step.back ≡ false
+    → OneStep cert.head (order_of cert.schedule) inst o 0 local.step s edges new → Turned image cert p s (RunsMain inst o rest) edges new
+main_forth image cert p s inst o rest edges new local h carries plain level runs before forth one =
+    let z = cert.schedule in
+    let c = one.exit.clocks in
+    let r = successor (order_of z) inst local.step one.exit in
+    let kind = runs.stands.of_kind in
+    let rule = h.rests rest runs.rests.is_rest in
+    let long = line_long z rest.line h.limits.schedule (h.limits.rests rest runs.rests.is_rest).line in
+    let covers : Succeeds cert inst local.step false = subst (Succeeds cert inst local.step) forth local.successor in
+    let on : RunsOn Main c s new = subst (λ k. RunsOn k c s new) kind one.main_timer in
+    let timer : MainTimer (length_of z rest.line) s new c = record { top = runs.rests.top; count = on.2; flag = on.3 } in
+    let covered = covers one.exit one.is_exit in
+    let to = lands h.laws.inside cert Main o 0 r new carries.is_state runs.stands.old kind one.meets covered (inl refl) in
+    let quiet = main_quiet cert p s.space.timer.count s.clock c rest rule before.place before.rested before.within one.at_most_four in
+    let none : shown edges ≡ [] = one.events ∙ ap (λ e. listed (shown_at e (s.clock + c))) (one.silent (ap is_main kind)) in
+    let spent = spends (length_of z rest.line) c s new timer long one.at_most_four before.clear before.within in
+    record {
+      follows = record {
+        clocks = c;
+        some = one.at_least_one;
+        clock = one.clock;
+        meets = record {
+          is_state = carries.is_state;
+          flash = carries.flash;
+          level = level_along z p s.clock c (frame_some z h.limits.schedule)
+              ∙ (ap (λ es. last_in es (level_at z p)) quiet ∙ (level ∙ ap (λ v. Some v) (sym on.0)));
+          running = RunsMain covered.inst o rest;
+          runs = record {
+            stands = to;
+            rests = record {
+              is_rest = runs.rests.is_rest;
+              cells = cells_same cert.head Handler rest.cells.items s.space.bytes new.space.bytes (λ a j e.
+                  let apart = handlers_alone cert.head a j e in
+                  one.untouched.cells a apart.range apart.there (subst (λ k. cell_place cert.head k a ≡ None) (sym kind) apart.none))
+                  runs.rests.cells;
+              top = ap suc on.1 ∙ runs.rests.top;
+              phase = main_phase cert p c s new rest before one.at_most_four one.settled spent
+                  (short_count (length_of z rest.line) c s new timer long one.at_most_four before.within);
+            };
+          };
+        };
+        exact = none ∙ sym quiet;
+        entries = carries.entries;
+      };
+      goes = (plain, refl, before.clear, spent);
+    }

@@ -1,6 +1,0 @@
-use Rattle.uz_frames.proofs.CallLaws.{taken_by}
-use Rattle.uz_frames.proofs.play.Play.pads_taken.Goals as goal
-
-pub returns-clause-stands : goal.returns-clause-stands
-returns-clause-stands c = taken_by c.args.self.now c.pads_left.result c.saturating_sub.result c.pads_left.ensures.exact
-    c.saturating_sub.ensures

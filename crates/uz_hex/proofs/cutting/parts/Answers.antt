@@ -1,0 +1,9 @@
+use Rattle.std.proofs.Common.{rules}
+use Rattle.std.proofs.lemmas.Iterator.Consumers.{map_from_collect}
+use Rattle.std.proofs.lemmas.Iterator.Splits.{YieldsList-from_slice_split}
+use Rattle.uz_hex.proofs.cutting.parts.Goals as goal
+use Rattle.std.proofs.Common.{eqb}
+
+pub returns : goal.returns
+returns c = map_from_collect _ c.collect.ensures.ran (YieldsList-from_slice_split _ (λ b. eqb b c.args.separator) c.args.text.now
+    c.split.ensures.rest c.split.ensures.done c.split.ensures.closure (search rules))

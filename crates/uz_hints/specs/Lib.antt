@@ -1,5 +1,0 @@
-pub mod Cells
-pub mod Faults
-pub mod Reading
-pub mod Rules
-pub mod Words

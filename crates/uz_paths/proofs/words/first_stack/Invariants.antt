@@ -1,0 +1,7 @@
+use Rattle.std.proofs.Common.{◌≡◌, drop}
+use Rattle.uz_paths.specs.Words.{first_stack}
+use Rattle.uz_paths.proofs.words.first_stack.Given as goal
+
+-- what is left answers for all
+abbrev pub invariant-loop-hint : goal.invariant-loop-hint
+invariant-loop-hint l = first_stack (drop l.hint-index l.hints) ≡ first_stack l.hints

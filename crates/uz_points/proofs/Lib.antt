@@ -1,7 +1,0 @@
-pub mod EachLemmas
-pub mod EqualLists
-pub mod OldFacts
-pub mod SameFacts
-pub mod TellingLemmas
-pub mod TakenLemmas
-pub mod GrowthLemmas

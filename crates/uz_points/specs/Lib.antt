@@ -1,4 +1,0 @@
-pub mod Points
-pub mod Same
-pub mod Telling
-pub mod Along

@@ -1,5 +1,0 @@
-mod Positions
-mod Instances
-mod FrameRules
-mod OldRules
-mod OldTimer

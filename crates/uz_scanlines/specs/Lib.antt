@@ -1,2 +1,0 @@
-pub mod ByPosition
-pub mod OldRules

@@ -1,4 +1,0 @@
-pub mod Accepting
-pub mod Complete
-pub mod Limits
-pub mod Made

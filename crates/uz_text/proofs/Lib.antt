@@ -1,4 +1,0 @@
-pub mod Cuts
-pub mod NumberWords
-pub mod Plain
-pub mod TextLines

@@ -1,4 +1,0 @@
-pub mod Cutting
-pub mod Hexadecimals
-pub mod Lines
-pub mod Numbers

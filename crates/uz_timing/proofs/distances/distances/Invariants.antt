@@ -1,6 +1,0 @@
-use Rattle.std.proofs.Common.{◌≡◌}
-use Rattle.uz_timing.specs.Shown.{distances_below}
-use Rattle.uz_timing.proofs.distances.distances.Given as goal
-
-abbrev pub invariant-loop-i : goal.invariant-loop-i
-invariant-loop-i l = l.all.items ≡ distances_below l.clocks l.i

@@ -1,6 +1,0 @@
-use Rattle.std.proofs.Common.{◌≡◌, map, take}
-use Rattle.uz_timing.specs.KindText.{length_of_kind}
-use Rattle.uz_timing.proofs.frame_text.line_lengths.Given as goal
-
-abbrev pub invariant-loop-kind : goal.invariant-loop-kind
-invariant-loop-kind l = l.lengths.items ≡ map (length_of_kind l.schedule) (take l.kind-index l.schedule.lines)

@@ -1,6 +1,0 @@
-use Rattle.std.proofs.Common.{◌≡◌, ◌++◌}
-use Rattle.uz_timing.specs.KindText.{distance_lines_below}
-use Rattle.uz_timing.proofs.kind_text.put_distances.Given as goal
-
-abbrev pub invariant-loop-distance : goal.invariant-loop-distance
-invariant-loop-distance l = l.text.items ≡ l.initial.text.items ++ distance_lines_below l.all l.distance

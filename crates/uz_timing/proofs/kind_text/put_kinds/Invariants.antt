@@ -1,6 +1,0 @@
-use Rattle.std.proofs.Common.{◌≡◌, ◌++◌}
-use Rattle.uz_timing.specs.KindText.{blocks_below}
-use Rattle.uz_timing.proofs.kind_text.put_kinds.Given as goal
-
-abbrev pub invariant-loop-kind : goal.invariant-loop-kind
-invariant-loop-kind l = l.text.items ≡ l.initial.text.items ++ blocks_below l.schedule l.kind

@@ -1,9 +1,0 @@
-pub mod Findings
-pub mod KindText
-pub mod FrameText
-pub mod Order
-pub mod Places
-pub mod Pulses
-pub mod Shown
-pub mod Timing
-pub mod Words

@@ -1,5 +1,0 @@
-pub mod Sevens
-pub mod StepsOf
-pub mod NumberLaws
-pub mod Refused
-pub mod StoredPointer
