@@ -1,4 +1,4 @@
-/* Plays 60 frames, and saves the state after the 30th: cc -o example example.c libuzebox_c.a liblibc_c.a && ./example kernel.hex */
+/* Plays 60 frames, and saves the state after the 30th: cc -o example example.c libuzebox_c.a && ./example kernel.hex */
 #include "uzebox.h"
 #include <stdio.h>
 

@@ -1,6 +1,6 @@
 """Plays 60 frames with Start held in the 30th, and prints how many rows each had.
 
-cc -shared -o libuzebox_c.so -Wl,--whole-archive libuzebox_c.a -Wl,--no-whole-archive liblibc_c.a
+cc -shared -o libuzebox_c.so -Wl,--whole-archive libuzebox_c.a -Wl,--no-whole-archive
 python3 example.py ./libuzebox_c.so kernel.hex
 """
 import ctypes

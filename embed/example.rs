@@ -1,4 +1,4 @@
-// Plays 60 frames and saves the state after the 30th: rustc -O -L . -Clink-arg=liblibc_c.a example.rs && ./example kernel.hex
+// Plays 60 frames and saves the state after the 30th: rustc -O -L . example.rs && ./example kernel.hex
 #[repr(C)]
 struct Answer {
     status: u32,

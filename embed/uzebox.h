@@ -1,6 +1,6 @@
 /* The library libuzebox_c.a: Uzebox consoles played a frame at a time.
  *
- *     cc -o program program.c libuzebox_c.a liblibc_c.a
+ *     cc -o program program.c libuzebox_c.a
  *
  * The second file is of the toolchain, in its folder c: the heap, over malloc, realloc and free.
  *

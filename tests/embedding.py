@@ -3,7 +3,7 @@
 
     embedding.py [PROGRAM]
 
-The library is that of the variable UZEBOX_C, else crates/uzebox_c/out/libuzebox_c.a. Where it isn't built, or cc or rustc lacks, what
+The library is that of the variable UZEBOX_C, else the one in release/. Where it isn't built, or cc or rustc lacks, what
 needs it is skipped. The examples of embed/ print what they say; 600 frames with changing buttons, or as many as a pad file has pairs for,
 are those that `play` writes, and their sound that which `wave` writes, over the pads as they were recorded; and 10,000 states, texts and rooms drawn by chance do
 no harm, under the address sanitizer where cc has it.
@@ -19,7 +19,7 @@ import tempfile
 from outcomes import EXAMPLES, TOP, Outcomes, program, run
 
 EMBED = os.path.join(TOP, 'embed')
-LIBRARY = os.environ.get('UZEBOX_C') or os.path.join(TOP, 'crates', 'uzebox_c', 'out', 'libuzebox_c.a')
+LIBRARY = os.environ.get('UZEBOX_C') or os.path.join(TOP, 'release', 'x86_64-linux', 'libuzebox_c.a')
 HEAP = []  # what the library's heap is, where the archive doesn't hold it: a file of the toolchain
 KERNELS = ['console', 'tiles', 'vertical-sync']
 FRAMES, MOST, CLOCKS, STATE = 600, 65536, 1_000_000, 5456
