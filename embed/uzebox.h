@@ -2,7 +2,7 @@
  *
  *     cc -o program program.c libuzebox_c.a
  *
- * The second file is of the toolchain, in its folder c: the heap, over malloc, realloc and free.
+ * The archive has the toolchain's heap, over malloc, realloc and free.
  *
  * No call keeps anything: the host keeps the text and the state, and any content of them is safe. A call reads and writes what its
  * arguments name and nothing else. Different states may be played by different threads at the same time.
