@@ -5,10 +5,12 @@
 
 PROGRAM is the program, else the variable UZEBOX, else `uzebox` at the top of the repository. Of each kernel: what `hints` prints
 after 4,000,000 clocks, whether `find` finds a certificate by what it wrote, whether `check` accepts that, and whether a run enters
-it. The two kernels with a main in C are compiled first, where avr-gcc is installed. Then what `hints` answers to programs that show
+it. The two kernels with a main in C are compiled first, where avr-gcc is installed. The same with drawn pads of four kernels, and of a
+kernel for an interrupt response of 5. Then what `hints` answers to programs that show
 no frame, no loop of main or no fall, or that stop, and that it writes no file then.
 """
 import os
+import random
 import shutil
 import subprocess
 import sys
@@ -29,6 +31,12 @@ KERNELS = [
     ('vertical-sync', 'hints 271 lines 0 facts 2 cells', 'accepted lines 271 clocks 476840'),
     ('tiles', 'hints 271 lines 0 facts 2 cells', 'accepted lines 271 clocks 476840'),
 ]
+
+# those of them that are run with drawn pads too
+PRESSED = ['button', 'console', 'vertical-sync', 'tiles']
+
+# pulse for a response of 5: its handler samples one clock later
+FIVE = "sed 's/subi r30,10/subi r30,11/; s/lines 1, 23/lines 1, 24/' pulse.asm >five.asm"
 
 # mains in C: how their HEX files are made
 GAME = [
@@ -56,17 +64,17 @@ def said(path, folder, *words):
     return ran.returncode, ran.stdout.split('\n')[:-1]
 
 
-def try_kernel(outcomes, path, folder, name, wanted, accepted):
+def try_kernel(outcomes, path, folder, name, wanted, accepted, pads='no-pads.txt', irq='4'):
     for file in ('found.hints', 'found.cert'):
         if os.path.exists(os.path.join(folder, file)):
             os.remove(os.path.join(folder, file))
-    proposed = said(path, folder, 'hints', name + '.hex', 'no-pads.txt', '4', CLOCKS, 'found.hints')
+    proposed = said(path, folder, 'hints', name + '.hex', pads, irq, CLOCKS, 'found.hints')
     outcomes.tell(proposed[0] == 0 and (wanted is None or proposed[1] == [wanted]), '%s: hints says %s' % (name, proposed))
-    found = said(path, folder, 'find', name + '.hex', 'found.hints', '4', 'found.cert')
+    found = said(path, folder, 'find', name + '.hex', 'found.hints', irq, 'found.cert')
     outcomes.tell(found == (0, [accepted]), '%s: find says %s' % (name, found))
     checked = said(path, folder, 'check', name + '.hex', 'found.cert')
     outcomes.tell(checked == (0, [accepted]), '%s: check says %s' % (name, checked))
-    played = said(path, folder, 'play', name + '.hex', 'found.cert', 'no-pads.txt', CLOCKS, 'frames')
+    played = said(path, folder, 'play', name + '.hex', 'found.cert', pads, CLOCKS, 'frames')
     outcomes.tell(played[0] == 0 and played[1][0].startswith('entered '), '%s: play says %s' % (name, played))
 
 
@@ -95,6 +103,14 @@ def main():
         for name, wanted, accepted in KERNELS:
             said(path, folder, 'build', name + '.asm', name + '.hex')
             try_kernel(outcomes, path, folder, name, wanted, accepted)
+        drawn = random.Random(5)
+        with open(os.path.join(folder, 'drawn.txt'), 'w') as out:
+            out.writelines('%04X %04X\n' % (drawn.getrandbits(12), drawn.getrandbits(12)) for _ in range(60000))
+        for name, wanted, accepted in KERNELS:
+            if name in PRESSED:
+                try_kernel(outcomes, path, folder, name, None, accepted, 'drawn.txt')
+        make(path, folder, [FIVE, '"$UZEBOX" build five.asm five.hex'])
+        try_kernel(outcomes, path, folder, 'five', 'hints 1 lines 0 facts 0 cells', 'accepted lines 1 clocks 1820', irq='5')
         if shutil.which('avr-gcc') and shutil.which('avr-objcopy'):
             make(path, folder, GAME)
             try_kernel(outcomes, path, folder, 'game', None, 'accepted lines 262 clocks 476840')
