@@ -3,11 +3,12 @@
 
     proposed_hints.py [PROGRAM]
 
-PROGRAM is the program, else the variable UZEBOX, else `uzebox` at the top of the repository. Of each kernel: what `hints` prints
-after 4,000,000 clocks, whether `find` finds a certificate by what it wrote, whether `check` accepts that, and whether a run enters
-it. The two kernels with a main in C are compiled first, where avr-gcc is installed. The same with drawn pads of four kernels, and of a
-kernel for an interrupt response of 5. Then what `hints` answers to programs that show
-no frame, no loop of main or no fall, or that stop, and that it writes no file then.
+PROGRAM is the program, else the variable UZEBOX, else `uzebox` at the top of the repository. Of each kernel: what
+`hints` prints after 4,000,000 clocks, whether `find` finds a certificate by what it wrote, whether `check` accepts
+that, and whether a run enters it. The two kernels with a main in C are compiled first, where avr-gcc is installed.
+The same with drawn pads of four kernels, and of a kernel for an interrupt response of 5. Then, of runs that are too
+short, the distances of the last falls beside those of `trace`, and what `hints` answers to programs that show no
+frame, no loop of main or no fall, or that stop, and that it writes no file then.
 """
 import os
 import random
@@ -90,6 +91,14 @@ def try_none(outcomes, path, folder, what, source, clocks, last):
     outcomes.tell(not os.path.exists(os.path.join(folder, 'no.hints')), '%s: a file is written' % what)
 
 
+def try_falls(outcomes, path, folder, clocks):
+    traced = said(path, folder, 'trace', 'vertical-sync.hex', 'no-pads.txt', '4', clocks)[1]
+    falls = [int(line.split(' ')[0]) for line in traced if line.endswith(' sync 0')][-5:]
+    wanted = 'falls ' + ' '.join(str(b - a) for a, b in zip(falls, falls[1:]))
+    lines = said(path, folder, 'hints', 'vertical-sync.hex', 'no-pads.txt', '4', clocks, 'no.hints')[1]
+    outcomes.tell(wanted in lines, '%s clocks: hints says %s, and not %s' % (clocks, lines, wanted))
+
+
 def make(path, folder, commands):
     subprocess.run('\n'.join(commands), shell=True, cwd=folder, env=dict(os.environ, UZEBOX=path), check=True, stdout=subprocess.DEVNULL)
 
@@ -118,6 +127,8 @@ def main():
             try_kernel(outcomes, path, folder, 'tiles-main', None, 'accepted lines 271 clocks 476840')
         else:
             outcomes.skip('avr-gcc is not installed', 8)
+        for clocks in ('21000', '23000', '100000'):
+            try_falls(outcomes, path, folder, clocks)
         for row in NONE:
             try_none(outcomes, path, folder, *row)
     outcomes.end()
