@@ -13,7 +13,7 @@ use std::alloc::{AllocError, Global};
 use std::collections::BTreeMap;
 use table_rows::Row;
 use uz_hex::Image;
-use uz_rules::Fail;
+use uz_transfer::Fail;
 use uz_schedule::{
     EventKind, Head, Instance, Kind, LineEvents, Response, SCANLINE, Schedule, Sequence, Span, Val,
 };

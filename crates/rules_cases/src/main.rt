@@ -16,7 +16,8 @@ use random_numbers::Random;
 use sum::Sum;
 use table::{Table, is_on_line, set_word};
 use uz_hex::Image;
-use uz_rules::{Fail, Next, after};
+use uz_rules::{Next, after};
+use uz_transfer::Fail;
 use uz_schedule::{Head, Instance, Kind, Schedule};
 
 /// How many instances are drawn.

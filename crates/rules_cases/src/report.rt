@@ -5,7 +5,8 @@
 //! printed whole, after `stack`.
 
 use anyhow::Result;
-use uz_rules::{Fail, Next};
+use uz_rules::Next;
+use uz_transfer::Fail;
 use uz_schedule::{Bit, EventKind, Instance, Span, Val, Wide};
 
 /// Tells a reason, or that there is none.

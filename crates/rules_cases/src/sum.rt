@@ -1,6 +1,7 @@
 //! Sums an answer up, number by number.
 
-use uz_rules::{Fail, Next};
+use uz_rules::Next;
+use uz_transfer::Fail;
 use uz_schedule::{Bit, EventKind, Instance, Span, Val, Wide};
 
 /// A sum over numbers in their order.

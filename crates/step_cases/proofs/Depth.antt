@@ -3,7 +3,7 @@ use Rattle.std.proofs.Common.{◌≡◌, ◌≤◌, arith}
 use Rattle.uz_schedule.specs.declared.kinds.Kind.{Kind}
 use Rattle.uz_schedule.specs.declared.kinds.Kind.TheVariants.{Main, Handler, Alone}
 use Rattle.uz_schedule.specs.declared.header.Head.{Head}
-use Rattle.uz_rules.specs.Kinds.{depth_limit}
+use Rattle.uz_transfer.specs.Kinds.{depth_limit}
 
 pub depth_few : (head : Head) (kind : Kind) → head.main ≡ 4 → head.handler ≡ 6 → depth_limit head kind ≤ 32
 depth_few head Main m h = omega (arith, m)

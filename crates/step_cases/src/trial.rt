@@ -10,7 +10,8 @@ use avr_decode::decode;
 use uz_console::{Console, Turn};
 use uz_core::{Edge, effect};
 use uz_hex::Image;
-use uz_rules::{Fail, Next, after, main_emits};
+use uz_rules::{Next, after};
+use uz_transfer::{Fail, main_emits};
 use uz_schedule::{Head, Instance, Kind, MOST_LINES, SCANLINE, Schedule};
 
 /// How a trial ends.

@@ -8,7 +8,7 @@ use Rattle.uz_schedule.specs.declared.certificate.Cert.{Cert}
 use Rattle.uz_schedule.specs.declared.states.Instance.{Instance}
 use Rattle.uz_schedule.specs.WellFormed.{WellFormed}
 use Rattle.uz_check.specs.Acceptance.{Accepts}
-use Rattle.uz_rules.specs.declared.fail.Fail.{Fail}
+use Rattle.uz_transfer.specs.declared.fail.Fail.{Fail}
 use Rattle.uz_search.specs.declared.found.NotFound.{NotFound}
 use Rattle.uz_search.specs.declared.found.NotFound.TheVariants.{Stuck, Split, Full, Hint, NoRest, Memory}
 use Rattle.uz_paths.specs.Finding.{Cause, IsAsked}

@@ -5,8 +5,8 @@ use Rattle.uz_schedule.specs.Schedule.{frame_of}
 use Rattle.uz_schedule.specs.declared.certificate.Cert.{Cert}
 use Rattle.uz_check.specs.declared.refusal.RefusedWhy.{RefusedWhy}
 use Rattle.uz_check.specs.declared.refusal.RefusedWhy.TheVariants.{Schedule, Rest, Entry, Point}
-use Rattle.uz_rules.specs.declared.fail.Fail.{Fail}
-use Rattle.uz_rules.specs.declared.fail.Fail.TheVariants as fail
+use Rattle.uz_transfer.specs.declared.fail.Fail.{Fail}
+use Rattle.uz_transfer.specs.declared.fail.Fail.TheVariants as fail
 use Rattle.uz_hex.specs.Hexadecimals.{hex_word}
 
 -- a reason of the local rule is printed by its name

@@ -22,16 +22,16 @@ use Rattle.uz_core.specs.Space.{history_wiring}
 use Rattle.uz_core.specs.Turn.{State, sync_level, after_instruction, instruction_edges}
 use Rattle.uz_core.specs.StateRange.{IsState}
 use Rattle.uz_range.specs.Containment.{IsWithin}
-use Rattle.uz_rules.specs.declared.step.Exit.{Exit}
-use Rattle.uz_rules.specs.declared.step.Step.{Step}
-use Rattle.uz_rules.specs.Values.{value_at, flag_at, pair_at, span_at}
+use Rattle.uz_transfer.specs.declared.step.Exit.{Exit}
+use Rattle.uz_transfer.specs.declared.step.Step.{Step}
+use Rattle.uz_transfer.specs.Values.{value_at, flag_at, pair_at, span_at}
 use Rattle.uz_rules.specs.CoreMeets.{ValueHolds, FlagHolds, CoreMeets}
 use Rattle.uz_rules.specs.MemoryMeets.{CellsHold, depth_below}
-use Rattle.uz_rules.specs.Kinds.{cell_place}
-use Rattle.uz_rules.specs.Kinds.{is_main, is_handler}
-use Rattle.uz_rules.specs.Memory.{depth_of}
+use Rattle.uz_transfer.specs.Kinds.{cell_place}
+use Rattle.uz_transfer.specs.Kinds.{is_main, is_handler}
+use Rattle.uz_transfer.specs.Memory.{depth_of}
 use Rattle.uz_rules.specs.Events.{shown_at, listed}
-use Rattle.uz_rules.specs.Step.{successor, ends_line}
+use Rattle.uz_transfer.specs.Step.{successor, ends_line}
 use Rattle.uz_schedule.specs.Lines.{line_after, clock_after}
 use Rattle.uz_rules.specs.Meets.{TimerMeets, TimerCounts, LevelMeets}
 use Rattle.uz_check.specs.Claim.{scheduled, InTime}

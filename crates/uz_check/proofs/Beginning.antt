@@ -19,11 +19,11 @@ use Rattle.uz_core.specs.Turn.{State, sync_level}
 use Rattle.uz_core.specs.StateRange.{IsState}
 use Rattle.uz_schedule.specs.Ends.{hull}
 use Rattle.uz_range.specs.Containment.{IsWithin}
-use Rattle.uz_rules.specs.Values.{value_at, pair_at, byte_hull}
+use Rattle.uz_transfer.specs.Values.{value_at, pair_at, byte_hull}
 use Rattle.uz_rules.specs.CoreMeets.{ValueHolds, FlagHolds, CoreMeets}
 use Rattle.uz_rules.specs.MemoryMeets.{HeaderHolds, MemoryMeets, depth_below}
-use Rattle.uz_rules.specs.Kinds.{is_main}
-use Rattle.uz_rules.specs.Memory.{depth_of}
+use Rattle.uz_transfer.specs.Kinds.{is_main}
+use Rattle.uz_transfer.specs.Memory.{depth_of}
 use Rattle.uz_rules.specs.Meets.{TimerMeets, TimerCounts, LevelMeets}
 use Rattle.uz_schedule.specs.Instances.{entry_instance}
 use Rattle.uz_schedule.specs.Tracked.{tracked}

@@ -14,9 +14,9 @@ use Rattle.uz_schedule.specs.Tracked.{tracks as kind_tracks, tracked}
 use Rattle.uz_core.specs.PadLine.{PadHistory}
 use Rattle.uz_core.specs.Turn.{State}
 use Rattle.uz_range.specs.Containment.{IsWithin}
-use Rattle.uz_rules.specs.Values.{span_at}
+use Rattle.uz_transfer.specs.Values.{span_at}
 use Rattle.uz_rules.specs.MemoryMeets.{HeadFits, CellsHold, HeaderHolds}
-use Rattle.uz_rules.specs.Kinds.{tracks, place_from, cell_place, range_from, cell_range}
+use Rattle.uz_transfer.specs.Kinds.{tracks, place_from, cell_place, range_from, cell_range}
 use Rattle.uz_console.specs.Entry.{IsIn, CellsHold as AllHold}
 use Rattle.uz_check.proofs.Fits.{HeadLimits, SpansFit}
 use Rattle.uz_check.specs.Invariant.{pushed}

@@ -27,11 +27,11 @@ use Rattle.uz_core.specs.Turn.{State, sync_level, after_entry, entry_edges}
 use Rattle.uz_core.specs.StateRange.{IsState}
 use Rattle.uz_range.specs.Answers.{ends}
 use Rattle.uz_range.specs.Containment.{IsWithin}
-use Rattle.uz_rules.specs.Values.{value_at, flag_at, pair_at}
+use Rattle.uz_transfer.specs.Values.{value_at, flag_at, pair_at}
 use Rattle.uz_rules.specs.CoreMeets.{ValueHolds, FlagHolds, CoreMeets}
-use Rattle.uz_rules.specs.Kinds.{cell_range}
+use Rattle.uz_transfer.specs.Kinds.{cell_range}
 use Rattle.uz_rules.specs.MemoryMeets.{HeaderHolds, depth_below}
-use Rattle.uz_rules.specs.Memory.{depth_of}
+use Rattle.uz_transfer.specs.Memory.{depth_of}
 use Rattle.uz_rules.specs.Meets.{TimerCounts}
 use Rattle.uz_check.specs.Claim.{scheduled, InTime}
 use Rattle.uz_schedule.specs.Instances.{old_from, rest_instance}

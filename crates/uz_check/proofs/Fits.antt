@@ -13,9 +13,9 @@ use Rattle.uz_schedule.specs.Limits.{rises}
 use Rattle.uz_schedule.specs.declared.kinds.Kind.{Kind}
 use Rattle.uz_schedule.specs.declared.header.Head.{Head}
 use Rattle.uz_schedule.specs.Tracked.{tracked}
-use Rattle.uz_rules.specs.Kinds.{depth_limit}
-use Rattle.uz_rules.specs.Kinds.{is_main}
-use Rattle.uz_rules.specs.Memory.{all_flags, is_old, depth_of}
+use Rattle.uz_transfer.specs.Kinds.{depth_limit}
+use Rattle.uz_transfer.specs.Kinds.{is_main}
+use Rattle.uz_transfer.specs.Memory.{all_flags, is_old, depth_of}
 use Rattle.uz_rules.specs.EdgeRule.{position_of}
 
 -- one range a cell, each within the cell's own

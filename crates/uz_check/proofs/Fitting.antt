@@ -16,17 +16,17 @@ use Rattle.uz_schedule.specs.declared.states.Instance.{Instance}
 use Rattle.uz_schedule.specs.declared.certificate.Cert.{Cert}
 use Rattle.uz_schedule.proofs.Starts.{length_within}
 use Rattle.uz_schedule.specs.Schedule.{length_of, start_of, level_at}
-use Rattle.uz_rules.specs.Kinds.{depth_limit}
+use Rattle.uz_transfer.specs.Kinds.{depth_limit}
 use Rattle.uz_rules.specs.MemoryMeets.{CellsHold}
-use Rattle.uz_rules.specs.Memory.{depth_of}
+use Rattle.uz_transfer.specs.Memory.{depth_of}
 use Rattle.uz_schedule.specs.Instances.{val_of, clock_below, clock_at, is_in_box, instance_of, instance_at_clock, instance_in, instance_at}
 use Rattle.uz_check.proofs.Fits.{HeadLimits, IsPlaced, PointLimits, Limits}
 use Rattle.uz_core.specs.Core.{Core, register}
 use Rattle.uz_core.specs.CoreRange.{IsByte, IsCore}
 use Rattle.uz_range.specs.Answers.{ends}
 use Rattle.uz_range.specs.Containment.{IsWithin}
-use Rattle.uz_rules.specs.Values.{span_at}
-use Rattle.uz_rules.specs.Refusals.{range_inside}
+use Rattle.uz_transfer.specs.Values.{span_at}
+use Rattle.uz_transfer.specs.Refusals.{range_inside}
 use Rattle.uz_rules.specs.Inside.{all_below, cells_inside}
 use Rattle.std.specs.List.{AllByRecursion}
 use Rattle.std.proofs.lemmas.Bool.Decides.{eqb_tells, leb_tells}

@@ -19,15 +19,15 @@ use Rattle.uz_core.specs.PadLine.{PadHistory}
 use Rattle.uz_core.specs.Space.{plain_byte}
 use Rattle.uz_core.specs.Turn.{State, sync_level}
 use Rattle.uz_core.specs.StateRange.{IsState}
-use Rattle.uz_rules.specs.declared.step.Exit.{Exit}
-use Rattle.uz_rules.specs.declared.step.Step.{Step}
+use Rattle.uz_transfer.specs.declared.step.Exit.{Exit}
+use Rattle.uz_transfer.specs.declared.step.Step.{Step}
 use Rattle.uz_rules.specs.MemoryMeets.{Untouched, depth_below}
-use Rattle.uz_rules.specs.Kinds.{cell_place}
-use Rattle.uz_rules.specs.Kinds.{is_main, is_handler}
-use Rattle.uz_rules.specs.Memory.{depth_of}
+use Rattle.uz_transfer.specs.Kinds.{cell_place}
+use Rattle.uz_transfer.specs.Kinds.{is_main, is_handler}
+use Rattle.uz_transfer.specs.Memory.{depth_of}
 use Rattle.uz_rules.specs.Events.{shown, shown_at, listed}
-use Rattle.uz_rules.specs.Emission.{level_after}
-use Rattle.uz_rules.specs.Step.{successor}
+use Rattle.uz_transfer.specs.Emission.{level_after}
+use Rattle.uz_transfer.specs.Step.{successor}
 use Rattle.uz_schedule.specs.Lines.{line_after, clock_after}
 use Rattle.uz_rules.specs.Meets.{LevelMeets}
 use Rattle.uz_rules.specs.OneStep.{MainTimer as RunsOn, OneStep}

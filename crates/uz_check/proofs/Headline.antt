@@ -25,8 +25,8 @@ use Rattle.uz_core.specs.Turn.{State, IsInstructionTurn, Turn, sync_level, is_en
 use Rattle.uz_core.specs.Turn.{instruction_edges}
 use Rattle.uz_core.specs.StateRange.{IsState}
 use Rattle.uz_core.proofs.StateKept.{state_kept}
-use Rattle.uz_rules.specs.Kinds.{is_main}
-use Rattle.uz_rules.specs.Memory.{depth_of}
+use Rattle.uz_transfer.specs.Kinds.{is_main}
+use Rattle.uz_transfer.specs.Memory.{depth_of}
 use Rattle.uz_rules.specs.Meets.{TimerCounts}
 use Rattle.uz_rules.specs.OneStep.{Contained, InstructionBegins as Begins}
 use Rattle.uz_check.specs.Claim.{InTime}

@@ -19,8 +19,8 @@ use Rattle.uz_schedule.specs.declared.states.Rest.{Rest}
 use Rattle.uz_schedule.specs.declared.states.Point.{Point}
 use Rattle.uz_schedule.specs.declared.states.Instance.{Instance}
 use Rattle.uz_schedule.specs.declared.certificate.Cert.{Cert}
-use Rattle.uz_rules.specs.declared.fail.Fail.TheVariants.{Clock, Restore}
-use Rattle.uz_rules.specs.Refusals.{refuse_if}
+use Rattle.uz_transfer.specs.declared.fail.Fail.TheVariants.{Clock, Restore}
+use Rattle.uz_transfer.specs.Refusals.{refuse_if}
 use Rattle.uz_rules.specs.Inside.{inside, same_bool, cells_inside, restored}
 use Rattle.uz_rules.specs.Local.{return_fail}
 use Rattle.uz_rules.specs.Successors.{lies_at, any_from, lies_in_point, lies_in_box}

@@ -14,8 +14,8 @@ use Rattle.uz_schedule.specs.declared.header.Head.{Head}
 use Rattle.uz_schedule.specs.declared.states.Rest.{Rest}
 use Rattle.uz_schedule.specs.declared.states.Point.{Point}
 use Rattle.uz_schedule.specs.declared.certificate.Cert.{Cert}
-use Rattle.uz_rules.specs.Kinds.{is_main, depth_limit}
-use Rattle.uz_rules.specs.Memory.{all_flags, is_old}
+use Rattle.uz_transfer.specs.Kinds.{is_main, depth_limit}
+use Rattle.uz_transfer.specs.Memory.{all_flags, is_old}
 use Rattle.uz_check.proofs.Fits.{SpansFit, HeadLimits, RestLimits, PointLimits, Limits, IsByteRange, EntryLimits}
 use Rattle.uz_check.proofs.Fitting.{and_true}
 

@@ -17,13 +17,13 @@ use Rattle.uz_schedule.specs.declared.lines.Schedule.{Schedule}
 use Rattle.uz_schedule.specs.declared.states.Point.{Point}
 use Rattle.uz_schedule.specs.declared.states.Instance.{Instance}
 use Rattle.uz_schedule.specs.declared.certificate.Cert.{Cert}
-use Rattle.uz_rules.specs.declared.fail.Fail.{Fail}
-use Rattle.uz_rules.specs.declared.fail.Fail.TheVariants.{Opcode, Edge, Successor}
-use Rattle.uz_rules.specs.declared.step.Exit.{Exit}
-use Rattle.uz_rules.specs.declared.step.Step.{Step}
-use Rattle.uz_rules.specs.Kinds.{is_main}
-use Rattle.uz_rules.specs.Refusals.{refuse_if}
-use Rattle.uz_rules.specs.Step.{step_of_row, successor}
+use Rattle.uz_transfer.specs.declared.fail.Fail.{Fail}
+use Rattle.uz_transfer.specs.declared.fail.Fail.TheVariants.{Opcode, Edge, Successor}
+use Rattle.uz_transfer.specs.declared.step.Exit.{Exit}
+use Rattle.uz_transfer.specs.declared.step.Step.{Step}
+use Rattle.uz_transfer.specs.Kinds.{is_main}
+use Rattle.uz_transfer.specs.Refusals.{refuse_if}
+use Rattle.uz_transfer.specs.Step.{step_of_row, successor}
 use Rattle.uz_rules.specs.EdgeRule.{is_event, is_quiet, edges_fit}
 use Rattle.uz_rules.specs.Inside.{same_bool}
 use Rattle.uz_rules.specs.Local.{is_stop, row_emits_in_main, rest_in, return_fail, first_exit, end_of, has_successors, result_fail}

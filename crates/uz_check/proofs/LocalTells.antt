@@ -23,17 +23,17 @@ use Rattle.uz_schedule.specs.declared.states.Point.{Point}
 use Rattle.uz_schedule.specs.declared.states.Instance.{Instance}
 use Rattle.uz_schedule.specs.declared.certificate.Cert.{Cert}
 use Rattle.uz_rules.specs.Events.{shown_at, listed}
-use Rattle.uz_rules.specs.declared.fail.Fail.{Fail}
-use Rattle.uz_rules.specs.declared.fail.Fail.TheVariants as fail
-use Rattle.uz_rules.specs.declared.step.Exit.{Exit}
-use Rattle.uz_rules.specs.declared.step.Step.{Step}
-use Rattle.uz_rules.specs.Kinds.{is_main}
-use Rattle.uz_rules.specs.Emission.{main_emits}
-use Rattle.uz_rules.specs.Refusals.{refuse_if}
-use Rattle.uz_rules.specs.Step.{IsReadAt, IsStep, step_of_row, successor}
+use Rattle.uz_transfer.specs.declared.fail.Fail.{Fail}
+use Rattle.uz_transfer.specs.declared.fail.Fail.TheVariants as fail
+use Rattle.uz_transfer.specs.declared.step.Exit.{Exit}
+use Rattle.uz_transfer.specs.declared.step.Step.{Step}
+use Rattle.uz_transfer.specs.Kinds.{is_main}
+use Rattle.uz_transfer.specs.Emission.{main_emits}
+use Rattle.uz_transfer.specs.Refusals.{refuse_if}
+use Rattle.uz_transfer.specs.Step.{IsReadAt, IsStep, step_of_row, successor}
 use Rattle.uz_rules.specs.Inside.{cells_inside, restored}
 use Rattle.uz_rules.specs.EdgeRule.{position_of, is_kind, is_event, is_quiet, emits_as_scheduled, edges_fit}
-use Rattle.uz_rules.specs.Exits.{each_exit}
+use Rattle.uz_transfer.specs.Exits.{each_exit}
 use Rattle.uz_rules.specs.Successors.{lies_in_point, lies_in_any, LiesInPoint}
 use Rattle.uz_rules.specs.Local.{is_no_opcode, row_emits_in_main, rest_in, return_fail, first_exit, end_of, has_successors, compares_edges}
 use Rattle.uz_rules.specs.Local.{step_fail, instance_fail, IsLocal}

@@ -21,7 +21,7 @@ use Rattle.uz_core.specs.Space.{history_wiring}
 use Rattle.uz_core.specs.Turn.{State, Turn}
 use Rattle.uz_core.specs.Run.{Run}
 use Rattle.uz_console.specs.Entry.{Begins, BeginsMain}
-use Rattle.uz_rules.specs.Kinds.{is_main}
+use Rattle.uz_transfer.specs.Kinds.{is_main}
 use Rattle.uz_check.proofs.Premises.{Premises}
 use Rattle.uz_check.specs.Invariant.{Running, RunsAlone, RunsMain, RunsHandler, Runs, Invariant}
 use Rattle.uz_check.specs.Ways.{IsPlain, Spends, Goes, EveryTurnGoes, Phase, InMain, InHandler, ReturnsAt, MainsTime, told, MainsTimeHolds}

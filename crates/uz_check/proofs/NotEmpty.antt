@@ -37,7 +37,7 @@ use Rattle.uz_core.specs.StateRange.{IsState}
 use Rattle.uz_check.specs.Steady.{IsSteady}
 use Rattle.uz_check.proofs.LevelFound.{level_found}
 use Rattle.uz_console.specs.Entry.{IsIn, BitHolds, CellsHold, whole_byte, ends_at, flag_at, Begins, EntryCondition}
-use Rattle.uz_rules.specs.Kinds.{depth_limit}
+use Rattle.uz_transfer.specs.Kinds.{depth_limit}
 use Rattle.uz_check.proofs.Fits.{IsByteRange, Limits, EntryLimits, HasRest}
 use Rattle.uz_check.proofs.Fitting.{and_true, line_short}
 use Rattle.uz_check.proofs.Ram.{other}

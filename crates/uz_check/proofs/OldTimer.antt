@@ -11,14 +11,14 @@ use Rattle.uz_schedule.specs.Lines.{uniform}
 use Rattle.uz_schedule.specs.Schedule.{scanline}
 use Rattle.uz_schedule.specs.declared.header.Head.{Head}
 use Rattle.uz_schedule.specs.declared.states.Instance.{Instance}
-use Rattle.uz_rules.specs.declared.fail.Fail.TheVariants as fail
-use Rattle.uz_rules.specs.declared.step.Exit.{Exit}
-use Rattle.uz_rules.specs.InTime.{keeps_time, sets_ahead, returns_with_top, is_in_time, clock_holds}
-use Rattle.uz_rules.specs.Kinds.{is_handler}
-use Rattle.uz_rules.specs.Memory.{address_range}
-use Rattle.uz_rules.specs.Refusals.{fail_of, io_fails, is_setup_register, top_fails}
-use Rattle.uz_rules.specs.Timer.{handler_stores, stores_top}
-use Rattle.uz_rules.specs.Values.{span_of, value_at}
+use Rattle.uz_transfer.specs.declared.fail.Fail.TheVariants as fail
+use Rattle.uz_transfer.specs.declared.step.Exit.{Exit}
+use Rattle.uz_transfer.specs.InTime.{keeps_time, sets_ahead, returns_with_top, is_in_time, clock_holds}
+use Rattle.uz_transfer.specs.Kinds.{is_handler}
+use Rattle.uz_transfer.specs.Memory.{address_range}
+use Rattle.uz_transfer.specs.Refusals.{fail_of, io_fails, is_setup_register, top_fails}
+use Rattle.uz_transfer.specs.Timer.{handler_stores, stores_top}
+use Rattle.uz_transfer.specs.Values.{span_of, value_at}
 use Rattle.uz_range.specs.Answers.{is_single}
 use Rattle.uz_check.proofs.FrameRules.{and_true, or_true, or_first}
 use Rattle.uz_check.proofs.OldRules.{both_true, each_true, unrefused}

@@ -12,14 +12,14 @@ use Rattle.uz_schedule.specs.declared.kinds.Kind.TheVariants.{Main, Handler, Alo
 use Rattle.uz_schedule.specs.declared.states.Rest.{Rest}
 use Rattle.uz_schedule.specs.declared.states.Instance.{Instance}
 use Rattle.uz_schedule.specs.declared.certificate.Cert.{Cert}
-use Rattle.uz_rules.specs.declared.step.Exit.{Exit}
-use Rattle.uz_rules.specs.declared.step.Step.{Step}
+use Rattle.uz_transfer.specs.declared.step.Exit.{Exit}
+use Rattle.uz_transfer.specs.declared.step.Step.{Step}
 use Rattle.uz_rules.specs.Inside.{inside, cells_inside, restored, StateInside}
 use Rattle.uz_rules.specs.Successors.{LiesInPoint}
 use Rattle.uz_rules.specs.Events.{shown_at, listed}
-use Rattle.uz_rules.specs.Step.{IsStep, successor}
+use Rattle.uz_transfer.specs.Step.{IsStep, successor}
 use Rattle.uz_rules.specs.OneStep.{AloneContained, HandlerContained, MainContained}
-use Rattle.uz_rules.specs.Emission.{main_emits}
+use Rattle.uz_transfer.specs.Emission.{main_emits}
 use Rattle.uz_check.specs.Claim.{scheduled}
 use Rattle.uz_schedule.specs.Lines.{order_of}
 use Rattle.uz_rules.specs.EdgeRule.{position_of}

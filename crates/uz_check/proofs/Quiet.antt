@@ -7,7 +7,7 @@ use Rattle.uz_schedule.specs.declared.lines.Schedule.{Schedule}
 use Rattle.uz_schedule.specs.Schedule.{frame_of, event_at, sync_of, level_at, level_set, or_else}
 use Rattle.uz_schedule.proofs.Modulo.{event_at_mod, mod_shift, level_step}
 use Rattle.uz_rules.specs.Events.{Shown, shown_at, listed}
-use Rattle.uz_rules.specs.Emission.{level_after}
+use Rattle.uz_transfer.specs.Emission.{level_after}
 use Rattle.uz_check.specs.Claim.{scheduled}
 
 -- a stretch depends on its start modulo the frame

@@ -8,11 +8,11 @@ use Rattle.uz_schedule.specs.declared.facts.Bit.TheVariants.{Zero, One, Free, Ol
 use Rattle.uz_schedule.specs.declared.states.Instance.{Instance}
 use Rattle.uz_core.specs.Arithmetic.{bit_is_set}
 use Rattle.uz_core.specs.Core.{Core, register}
-use Rattle.uz_rules.specs.Values.{value_at, flag_at}
+use Rattle.uz_transfer.specs.Values.{value_at, flag_at}
 use Rattle.uz_rules.specs.CoreMeets.{ValueHolds, FlagHolds, CoreMeets}
-use Rattle.uz_rules.specs.Memory.{depth_of}
+use Rattle.uz_transfer.specs.Memory.{depth_of}
 use Rattle.uz_rules.specs.Inside.{all_below}
-use Rattle.uz_rules.specs.Memory.{is_old}
+use Rattle.uz_transfer.specs.Memory.{is_old}
 use Rattle.uz_rules.specs.Inside.{is_old_register, restored}
 use Rattle.uz_check.proofs.Fitting.{and_true, below_tells}
 use Rattle.uz_check.proofs.BoxesCovered.{number_tells}

@@ -19,14 +19,14 @@ use Rattle.uz_schedule.specs.declared.lines.EventKind.{EventKind}
 use Rattle.uz_schedule.specs.declared.lines.EventKind.TheVariants.{Leave}
 use Rattle.uz_schedule.specs.declared.states.Instance.{Instance}
 use Rattle.uz_schedule.specs.Lines.{Lines, line_after}
-use Rattle.uz_rules.specs.declared.fail.Fail.{Fail}
-use Rattle.uz_rules.specs.declared.fail.Fail.TheVariants as fail
-use Rattle.uz_rules.specs.Kinds.{is_handler}
-use Rattle.uz_rules.specs.Refusals.{refuse_if}
-use Rattle.uz_rules.specs.declared.step.Exit.{Exit}
-use Rattle.uz_rules.specs.declared.step.Step.{Step}
-use Rattle.uz_rules.specs.InTime.{keeps_time, sets_ahead, returns_with_top, clock_holds}
-use Rattle.uz_rules.specs.Step.{step_unless, step_of_row, IsStep}
+use Rattle.uz_transfer.specs.declared.fail.Fail.{Fail}
+use Rattle.uz_transfer.specs.declared.fail.Fail.TheVariants as fail
+use Rattle.uz_transfer.specs.Kinds.{is_handler}
+use Rattle.uz_transfer.specs.Refusals.{refuse_if}
+use Rattle.uz_transfer.specs.declared.step.Exit.{Exit}
+use Rattle.uz_transfer.specs.declared.step.Step.{Step}
+use Rattle.uz_transfer.specs.InTime.{keeps_time, sets_ahead, returns_with_top, clock_holds}
+use Rattle.uz_transfer.specs.Step.{step_unless, step_of_row, IsStep}
 use Rattle.uz_check.proofs.ReturnTurn.{is_reti}
 use Rattle.uz_check.proofs.Fitting.{and_true}
 

@@ -30,19 +30,19 @@ use Rattle.uz_schedule.specs.declared.header.Head.{Head}
 use Rattle.uz_schedule.specs.declared.lines.EventKind.{EventKind}
 use Rattle.uz_schedule.specs.declared.states.Instance.{Instance}
 use Rattle.uz_range.specs.Answers.{is_single}
-use Rattle.uz_rules.specs.declared.fail.Fail.{Fail}
-use Rattle.uz_rules.specs.declared.step.Exit.{Exit}
-use Rattle.uz_rules.specs.declared.step.Step.{Step}
-use Rattle.uz_rules.specs.Values.{span_of, value_at, with_flag_list}
-use Rattle.uz_rules.specs.Kinds.{cell_place, is_main, is_handler}
-use Rattle.uz_rules.specs.Memory.{address_range, with_pointer_range, flags_from, with_cell, stored_in}
-use Rattle.uz_rules.specs.Transfer.{transfer}
-use Rattle.uz_rules.specs.Exits.{outcomes, targets, each_exit}
-use Rattle.uz_rules.specs.Emission.{emission, main_emits, level_after}
-use Rattle.uz_rules.specs.Refusals.{fail_of}
-use Rattle.uz_rules.specs.InTime.{keeps_time, sets_ahead, returns_with_top, is_in_time, clock_holds}
-use Rattle.uz_rules.specs.Timer.{handler_stores, stores_top, top_after, temp_loaded, temp_after, with_timer}
-use Rattle.uz_rules.specs.Step.{exits_of, clears_flag, following_of, sampled_of, step_unless, step_of, step_of_row, at_exit}
+use Rattle.uz_transfer.specs.declared.fail.Fail.{Fail}
+use Rattle.uz_transfer.specs.declared.step.Exit.{Exit}
+use Rattle.uz_transfer.specs.declared.step.Step.{Step}
+use Rattle.uz_transfer.specs.Values.{span_of, value_at, with_flag_list}
+use Rattle.uz_transfer.specs.Kinds.{cell_place, is_main, is_handler}
+use Rattle.uz_transfer.specs.Memory.{address_range, with_pointer_range, flags_from, with_cell, stored_in}
+use Rattle.uz_transfer.specs.Transfer.{transfer}
+use Rattle.uz_transfer.specs.Exits.{outcomes, targets, each_exit}
+use Rattle.uz_transfer.specs.Emission.{emission, main_emits, level_after}
+use Rattle.uz_transfer.specs.Refusals.{fail_of}
+use Rattle.uz_transfer.specs.InTime.{keeps_time, sets_ahead, returns_with_top, is_in_time, clock_holds}
+use Rattle.uz_transfer.specs.Timer.{handler_stores, stores_top, top_after, temp_loaded, temp_after, with_timer}
+use Rattle.uz_transfer.specs.Step.{exits_of, clears_flag, following_of, sampled_of, step_unless, step_of, step_of_row, at_exit}
 use Rattle.uz_rules.specs.Local.{is_stop}
 
 -- the same instance at line m

@@ -10,9 +10,9 @@ use Rattle.uz_schedule.specs.declared.states.Instance.{Instance}
 use Rattle.uz_schedule.specs.Schedule.{length_of}
 use Rattle.uz_core.specs.Timer.{Timer, is_counting, timer_after}
 use Rattle.uz_schedule.specs.Lines.{Lines, clock_after}
-use Rattle.uz_rules.specs.declared.step.Exit.{Exit}
-use Rattle.uz_rules.specs.InTime.{keeps_time}
-use Rattle.uz_rules.specs.Step.{ends_line}
+use Rattle.uz_transfer.specs.declared.step.Exit.{Exit}
+use Rattle.uz_transfer.specs.InTime.{keeps_time}
+use Rattle.uz_transfer.specs.Step.{ends_line}
 use Rattle.uz_rules.specs.Meets.{TimerMeets}
 use Rattle.uz_schedule.specs.Lines.{order_of}
 use Rattle.uz_check.proofs.Fitting.{and_true}

@@ -17,8 +17,8 @@ use Rattle.uz_core.specs.Space.{history_wiring}
 use Rattle.uz_core.specs.Turn.{State, Turn, sync_level}
 use Rattle.uz_core.specs.StateRange.{IsState}
 use Rattle.uz_rules.specs.MemoryMeets.{CellsHold}
-use Rattle.uz_rules.specs.Kinds.{cell_place}
-use Rattle.uz_rules.specs.Memory.{depth_of}
+use Rattle.uz_transfer.specs.Kinds.{cell_place}
+use Rattle.uz_transfer.specs.Memory.{depth_of}
 use Rattle.uz_rules.specs.Meets.{Meets}
 use Rattle.uz_check.specs.Claim.{Follows}
 use Rattle.uz_core.specs.Run.{Run}

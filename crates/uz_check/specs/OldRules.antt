@@ -17,9 +17,9 @@ use Rattle.uz_schedule.specs.declared.lines.Schedule.{Schedule}
 use Rattle.uz_schedule.specs.declared.states.Instance.{Instance}
 use Rattle.uz_schedule.specs.declared.states.Point.{Point}
 use Rattle.uz_schedule.specs.declared.states.Rest.{Rest}
-use Rattle.uz_rules.specs.declared.step.Exit.{Exit}
-use Rattle.uz_rules.specs.declared.step.Step.{Step}
-use Rattle.uz_rules.specs.Step.{IsReadAt, step_of_row, successor}
+use Rattle.uz_transfer.specs.declared.step.Exit.{Exit}
+use Rattle.uz_transfer.specs.declared.step.Step.{Step}
+use Rattle.uz_transfer.specs.Step.{IsReadAt, step_of_row, successor}
 use Rattle.uz_rules.specs.Inside.{cells_inside, restored}
 use Rattle.uz_rules.specs.Local.{first_exit, is_stop, rest_in, row_emits_in_main}
 use Rattle.uz_check.specs.Steady.{IsSteady}

@@ -7,7 +7,7 @@ use Rattle.uz_schedule.specs.declared.lines.Schedule.{Schedule as Frame}
 use Rattle.uz_schedule.specs.declared.states.Rest.{Rest}
 use Rattle.uz_schedule.specs.declared.states.Point.{Point}
 use Rattle.uz_schedule.specs.declared.certificate.Cert.{Cert}
-use Rattle.uz_rules.specs.declared.fail.Fail.{Fail}
+use Rattle.uz_transfer.specs.declared.fail.Fail.{Fail}
 use Rattle.uz_check.specs.FrameRules.{RestPasses, EntryPasses}
 use Rattle.uz_rules.specs.Local.{IsLocal}
 use Rattle.uz_check.specs.declared.refusal.RefusedWhy.{RefusedWhy}

@@ -29,4 +29,4 @@ pub use scanline_laws::{
     old_timer_keeps_time, scanlines_by_position,
 };
 pub use soundness_laws::{some_state_enters, soundness};
-pub use uz_rules::Fail;
+pub use uz_transfer::Fail;

@@ -1,6 +1,6 @@
 //! Which item of a certificate refuses it.
 
-use uz_rules::Fail;
+use uz_transfer::Fail;
 
 /// The first failing item of a pair of an image and a certificate: the schedule by line and clock, rests by line, the
 /// entry, then points by number, line and count.

@@ -10,7 +10,7 @@ use Rattle.uz_hex.specs.Cells.{word_of}
 use Rattle.avr_table.specs.declared.Instr.{Instr}
 use Rattle.avr_table.specs.Rows.{Reads}
 use Rattle.avr_decode.specs.Decoded.{Decoded}
-use Rattle.uz_rules.specs.Step.{IsReadAt}
+use Rattle.uz_transfer.specs.Step.{IsReadAt}
 use Rattle.uz_explanations.specs.Readings.{Reading, IsReading}
 
 pub same_answer : (first second : ℕ) → ((i j : Instr) → Reads first second i → Reads first second j → i ≡ j) → (a b : Option Instr)

@@ -3,7 +3,7 @@ use Rattle.std.specs.Prelude.{ℕ, Option}
 use Rattle.std.specs.Ordering.{nat_cmp}
 use Rattle.std.specs.FinMap.{FinMap}
 use Rattle.avr_table.specs.declared.Instr.{Instr}
-use Rattle.uz_rules.specs.Step.{IsReadAt}
+use Rattle.uz_transfer.specs.Step.{IsReadAt}
 
 -- by program counter, the instruction that its words are read as, if they are read as one
 abbrev pub Reading : Type 0

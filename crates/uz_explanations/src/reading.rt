@@ -2,12 +2,12 @@
 
 ghost use Rattle.std.specs.Prelude.{◌≡◌, Option};
 ghost use Rattle.avr_table.specs.declared.Instr.{Instr};
-ghost use Rattle.uz_rules.specs.Step.{IsReadAt};
+ghost use Rattle.uz_transfer.specs.Step.{IsReadAt};
 
 use avr_decode::decode;
 use avr_table::Instr;
 use uz_hex::Image;
-use uz_rules::word_after;
+use uz_transfer::word_after;
 
 /// The instruction that is read at a program counter, and None where none is.
 #[tactic(auto, using(crate::proofs::ReadingLemmas::same_answer))]

@@ -14,7 +14,7 @@ use avr_table::{Instr, words};
 use itoa::Buffer;
 use std::alloc::{AllocError, Global};
 use uz_hex::{Image, word_digits};
-use uz_rules::word_after;
+use uz_transfer::word_after;
 use uz_schedule::{Instance, Kind};
 
 /// Puts a name and a number behind a text.

@@ -17,12 +17,12 @@ use Rattle.uz_schedule.specs.Ends.{Ends}
 use Rattle.uz_schedule.specs.Instances.{handler_entry}
 use Rattle.uz_schedule.specs.declared.header.Head.{Head}
 use Rattle.uz_schedule.specs.declared.states.Instance.{Instance}
-use Rattle.uz_rules.specs.declared.fail.Fail.{Fail}
-use Rattle.uz_rules.specs.declared.step.Exit.{Exit}
-use Rattle.uz_rules.specs.Exits.{choices, decided, flag_of_kind, jump_pcs, numbers_from, outcomes, skip_outcome, test_decides}
-use Rattle.uz_rules.specs.Refusals.{fail_of, refuse_if, target_fails}
-use Rattle.uz_rules.specs.Step.{exits_of, following_of}
-use Rattle.uz_rules.specs.Values.{pair_range}
+use Rattle.uz_transfer.specs.declared.fail.Fail.{Fail}
+use Rattle.uz_transfer.specs.declared.step.Exit.{Exit}
+use Rattle.uz_transfer.specs.Exits.{choices, decided, flag_of_kind, jump_pcs, numbers_from, outcomes, skip_outcome, test_decides}
+use Rattle.uz_transfer.specs.Refusals.{fail_of, refuse_if, target_fails}
+use Rattle.uz_transfer.specs.Step.{exits_of, following_of}
+use Rattle.uz_transfer.specs.Values.{pair_range}
 use Rattle.uz_rules.specs.declared.next.Next.{Next}
 use Rattle.uz_search.specs.declared.program.Program.{Program}
 use Rattle.uz_search.specs.Following.{After, Flash}

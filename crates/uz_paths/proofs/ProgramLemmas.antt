@@ -23,7 +23,7 @@ use Rattle.uz_search.specs.declared.program.Program.{Program}
 use Rattle.uz_search.specs.Fitting.{StartFits, ProgramFits}
 use Rattle.uz_search.specs.Following.{Among, lines_of}
 use Rattle.uz_search.proofs.TimerLaws.{last_clock}
-use Rattle.uz_rules.specs.Kinds.{is_main}
+use Rattle.uz_transfer.specs.Kinds.{is_main}
 use Rattle.uz_paths.specs.declared.words.Beginning.{Beginning}
 use Rattle.uz_paths.specs.declared.reading.Reading.{Reading}
 use Rattle.uz_paths.specs.Faults.{FactPart, FactsFine}

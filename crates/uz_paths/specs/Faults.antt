@@ -11,8 +11,8 @@ use Rattle.uz_schedule.specs.Schedule.{response_clocks, half_line}
 use Rattle.uz_schedule.specs.declared.kinds.Kind.{Kind}
 use Rattle.uz_schedule.specs.declared.kinds.Kind.TheVariants.{Handler, Alone}
 use Rattle.uz_schedule.specs.declared.kinds.Response.{Response}
-use Rattle.uz_rules.specs.Kinds.{is_main}
-use Rattle.uz_rules.specs.Step.{IsReadAt}
+use Rattle.uz_transfer.specs.Kinds.{is_main}
+use Rattle.uz_transfer.specs.Step.{IsReadAt}
 use Rattle.uz_paths.specs.declared.words.Beginning.{Beginning}
 use Rattle.uz_paths.specs.declared.words.FrameSize.{FrameSize}
 use Rattle.uz_paths.specs.declared.words.StackRegion.{StackRegion}

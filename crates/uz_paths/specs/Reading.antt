@@ -9,7 +9,7 @@ use Rattle.uz_schedule.specs.Schedule.{response_clocks}
 use Rattle.uz_schedule.specs.Tracked.{tracked}
 use Rattle.uz_schedule.specs.WellFormed.{HeadFits, RangeFits, SpansFit}
 use Rattle.uz_schedule.specs.declared.kinds.Kind.TheVariants.{Handler}
-use Rattle.uz_rules.specs.Kinds.{is_main}
+use Rattle.uz_transfer.specs.Kinds.{is_main}
 use Rattle.uz_schedule.specs.declared.kinds.Response.{Response}
 use Rattle.uz_schedule.specs.declared.header.Head.{Head}
 use Rattle.uz_paths.specs.declared.words.PlaceRange.{PlaceRange}

@@ -1,7 +1,7 @@
 //! Which hint is at fault.
 
 ghost use Rattle.std.specs.Prelude.{◌≡◌, ◌≢◌, ◌<◌, ◌≤◌, ◌↔◌, ◌^◌, IsTrue, MatchOption, Some, length, slice_get};
-ghost use Rattle.uz_rules.specs.Step.{IsReadAt};
+ghost use Rattle.uz_transfer.specs.Step.{IsReadAt};
 ghost use Rattle.uz_paths.specs.Words.{first_start as start_in, first_stack as stack_in};
 ghost use Rattle.uz_paths.specs.Faults.{Reads, starts_main as enters_main, StartFine, LinesFine, HalvesFit, HalfFine};
 ghost use Rattle.uz_paths.specs.Faults.{StackFine, OffStack, CellRangeFine, CellPlaceFine, CellFine, FactFine, IsFine};
@@ -15,7 +15,7 @@ use avr_asm::Hint;
 use avr_decode::decode;
 use avr_table::Instr;
 use uz_hex::{FLASH_WORDS, Image};
-use uz_rules::word_after;
+use uz_transfer::word_after;
 use uz_schedule::{CLOCK_LIMIT, HALF_LINE, Kind, MOST_LINES, Response};
 
 /// The lowest and the highest address of RAM in the data space (ATmega644 data sheet).

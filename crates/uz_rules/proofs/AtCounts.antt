@@ -15,7 +15,7 @@ use Rattle.uz_schedule.specs.declared.lines.Schedule.{Schedule}
 use Rattle.uz_schedule.specs.declared.certificate.Cert.{Cert}
 use Rattle.uz_schedule.specs.Schedule.{length_of, start_of, level_at}
 use Rattle.uz_schedule.specs.Instances.{is_in_box, clock_below, clock_at, instance_of, instance_at_clock, instance_in, instance_at}
-use Rattle.uz_rules.specs.Refusals.{range_inside, is_some}
+use Rattle.uz_transfer.specs.Refusals.{range_inside, is_some}
 use Rattle.uz_rules.specs.Inside.{same_kind, same_timer, same_place, inside}
 use Rattle.uz_rules.specs.Successors.{lies_at, any_from, lies_in_box, same_program_place}
 use Rattle.uz_rules.specs.FactInclusion.{said_at, facts_inside, has_level, is_line_of, timer_inside, is_beside, stands_beside, IsAtCount}

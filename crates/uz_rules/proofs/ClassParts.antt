@@ -26,12 +26,12 @@ use Rattle.uz_core.specs.Turn.{sync_level}
 use Rattle.uz_schedule.specs.declared.header.Head.{Head}
 use Rattle.uz_schedule.specs.declared.lines.EventKind.{EventKind}
 use Rattle.uz_schedule.specs.declared.states.Instance.{Instance}
-use Rattle.uz_rules.specs.Values.{value_at}
-use Rattle.uz_rules.specs.Kinds.{depth_limit, is_main, is_handler}
-use Rattle.uz_rules.specs.Memory.{address_range, with_pointer_range, stored_in, with_slots, without_slots, depth_of}
-use Rattle.uz_rules.specs.Transfer.{pc_values, transfer}
-use Rattle.uz_rules.specs.Emission.{emission_at}
-use Rattle.uz_rules.specs.Refusals.{fail_of}
+use Rattle.uz_transfer.specs.Values.{value_at}
+use Rattle.uz_transfer.specs.Kinds.{depth_limit, is_main, is_handler}
+use Rattle.uz_transfer.specs.Memory.{address_range, with_pointer_range, stored_in, with_slots, without_slots, depth_of}
+use Rattle.uz_transfer.specs.Transfer.{pc_values, transfer}
+use Rattle.uz_transfer.specs.Emission.{emission_at}
+use Rattle.uz_transfer.specs.Refusals.{fail_of}
 use Rattle.uz_core.specs.Core.{returns_from_interrupt}
 use Rattle.uz_rules.proofs.CoreKeeps.{register_byte, pair_word}
 use Rattle.uz_rules.proofs.MemoryKeeps.{pop_meets}

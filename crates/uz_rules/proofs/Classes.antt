@@ -17,15 +17,15 @@ use Rattle.uz_schedule.specs.declared.facts.Val.{Val}
 use Rattle.uz_schedule.specs.declared.header.Head.{Head}
 use Rattle.uz_schedule.specs.declared.lines.EventKind.{EventKind}
 use Rattle.uz_schedule.specs.declared.states.Instance.{Instance}
-use Rattle.uz_rules.specs.declared.fail.Fail.{Fail}
-use Rattle.uz_rules.specs.declared.fail.Fail.TheVariants.{Mask}
-use Rattle.uz_rules.specs.Values.{value_at}
+use Rattle.uz_transfer.specs.declared.fail.Fail.{Fail}
+use Rattle.uz_transfer.specs.declared.fail.Fail.TheVariants.{Mask}
+use Rattle.uz_transfer.specs.Values.{value_at}
 use Rattle.uz_rules.specs.CoreMeets.{CoreMeets}
 use Rattle.uz_rules.specs.MemoryMeets.{MemoryMeets, HeadFits}
-use Rattle.uz_rules.specs.Kinds.{is_main, is_handler}
-use Rattle.uz_rules.specs.Memory.{address_range, with_pointer_range, depth_of}
-use Rattle.uz_rules.specs.Emission.{emission_at}
-use Rattle.uz_rules.specs.Refusals.{refuse_if, is_setup_register, top_fails, io_fails, fail_of}
+use Rattle.uz_transfer.specs.Kinds.{is_main, is_handler}
+use Rattle.uz_transfer.specs.Memory.{address_range, with_pointer_range, depth_of}
+use Rattle.uz_transfer.specs.Emission.{emission_at}
+use Rattle.uz_transfer.specs.Refusals.{refuse_if, is_setup_register, top_fails, io_fails, fail_of}
 use Rattle.uz_rules.specs.Meets.{InstanceFits}
 use Rattle.uz_core.proofs.SregBits.{bit_of_with_bit}
 use Rattle.uz_rules.proofs.SpaceStores.{choose_if}

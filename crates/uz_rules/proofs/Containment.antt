@@ -44,27 +44,27 @@ use Rattle.uz_schedule.specs.declared.header.Head.{Head}
 use Rattle.uz_schedule.specs.declared.lines.EventKind.{EventKind}
 use Rattle.uz_schedule.specs.declared.lines.EventKind.TheVariants.{Sync, Pixel, Sound, Leave}
 use Rattle.uz_schedule.specs.declared.states.Instance.{Instance}
-use Rattle.uz_rules.specs.declared.fail.Fail.{Fail}
-use Rattle.uz_rules.specs.declared.fail.Fail.TheVariants.{Mask}
-use Rattle.uz_rules.specs.Kinds.{cell_place, is_main, is_handler}
+use Rattle.uz_transfer.specs.declared.fail.Fail.{Fail}
+use Rattle.uz_transfer.specs.declared.fail.Fail.TheVariants.{Mask}
+use Rattle.uz_transfer.specs.Kinds.{cell_place, is_main, is_handler}
 use Rattle.uz_rules.specs.MemoryMeets.{HeadFits, Untouched}
-use Rattle.uz_rules.specs.Memory.{depth_of, address_range, with_pointer_range, flags_from, with_cell, stored_in}
-use Rattle.uz_rules.specs.Transfer.{transfer, bit_of_bool}
-use Rattle.uz_rules.specs.Emission.{byte_event, bit_event, level_event, emission, emission_at, level_after}
-use Rattle.uz_rules.specs.Values.{span_of, value_at, with_flag_list}
-use Rattle.uz_rules.specs.Refusals.{fail_of}
+use Rattle.uz_transfer.specs.Memory.{depth_of, address_range, with_pointer_range, flags_from, with_cell, stored_in}
+use Rattle.uz_transfer.specs.Transfer.{transfer, bit_of_bool}
+use Rattle.uz_transfer.specs.Emission.{byte_event, bit_event, level_event, emission, emission_at, level_after}
+use Rattle.uz_transfer.specs.Values.{span_of, value_at, with_flag_list}
+use Rattle.uz_transfer.specs.Refusals.{fail_of}
 use Rattle.uz_rules.specs.Events.{event_of, shown_at, shown, listed}
 use Rattle.uz_rules.proofs.StoreShows.{kinds_listed}
 use Rattle.uz_schedule.specs.Lines.{Lines}
-use Rattle.uz_rules.specs.Step.{clears_flag, following_of, sampled_of, draft_of, all_exits, step_unless, step_of_row, successor}
-use Rattle.uz_rules.specs.Step.{IsReadAt}
-use Rattle.uz_rules.specs.InTime.{clock_holds}
+use Rattle.uz_transfer.specs.Step.{clears_flag, following_of, sampled_of, draft_of, all_exits, step_unless, step_of_row, successor}
+use Rattle.uz_transfer.specs.Step.{IsReadAt}
+use Rattle.uz_transfer.specs.InTime.{clock_holds}
 use Rattle.uz_rules.specs.Meets.{TimerMeets, TimerCounts, LevelMeets, Meets, InstanceFits}
 use Rattle.uz_rules.specs.OneStep.{IsNoEntry, MainTimer, OneStep, InstructionBegins, Contained, AloneContained}
 use Rattle.uz_rules.specs.OneStep.{MainContained}
-use Rattle.uz_rules.specs.Emission.{main_emits}
-use Rattle.uz_rules.specs.declared.step.Exit.{Exit}
-use Rattle.uz_rules.specs.declared.step.Step.{Step}
+use Rattle.uz_transfer.specs.Emission.{main_emits}
+use Rattle.uz_transfer.specs.declared.step.Exit.{Exit}
+use Rattle.uz_transfer.specs.declared.step.Step.{Step}
 use Rattle.uz_rules.proofs.LeavesHold.{stores_leave, facts_of}
 use Rattle.uz_rules.proofs.Timing.{loads_beside, stores_beside, later}
 use Rattle.uz_rules.proofs.TopAndTemp.{top_stays}

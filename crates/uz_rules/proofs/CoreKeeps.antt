@@ -13,8 +13,8 @@ use Rattle.uz_schedule.specs.declared.facts.Val.TheVariants.{Range, Old, OldFlag
 use Rattle.uz_schedule.specs.declared.states.Instance.{Instance}
 use Rattle.uz_range.specs.Containment.{IsWithin}
 use Rattle.uz_range.specs.Answers.{ends}
-use Rattle.uz_rules.specs.Values.{span_of, value_at, pair_at, byte_hull, is_pointer, pair_number, pair_range, with_value}
-use Rattle.uz_rules.specs.Values.{with_pair_range}
+use Rattle.uz_transfer.specs.Values.{span_of, value_at, pair_at, byte_hull, is_pointer, pair_number, pair_range, with_value}
+use Rattle.uz_transfer.specs.Values.{with_pair_range}
 use Rattle.uz_rules.specs.CoreMeets.{ValueHolds, CoreMeets}
 
 -- Lists

@@ -22,11 +22,11 @@ use Rattle.uz_range.specs.Answers.{ends, is_single, is_known, is_one}
 use Rattle.uz_range.specs.Containment.{IsWithin, MayBe, Admits, AdmitsAll}
 use Rattle.uz_range.specs.Rules.{low_answer, high_answer, bst_answer, pair_add_answer, pair_sub_answer}
 use Rattle.uz_range.proofs.PairsCover.{low_covers, high_covers, bst_covers, pair_add_covers, pair_sub_covers}
-use Rattle.uz_rules.specs.Values.{exact_pair, byte_hull, flag_at, pair_range, each_flag, with_value, with_pair_value, with_flag_list}
-use Rattle.uz_rules.specs.Values.{merged_flags, known_byte}
+use Rattle.uz_transfer.specs.Values.{exact_pair, byte_hull, flag_at, pair_range, each_flag, with_value, with_pair_value, with_flag_list}
+use Rattle.uz_transfer.specs.Values.{merged_flags, known_byte}
 use Rattle.uz_rules.specs.CoreMeets.{ValueHolds, FlagHolds, CoreMeets}
-use Rattle.uz_rules.specs.Memory.{address_range, with_pointer_range, all_flags, is_old, flags_number, sreg_value, flags_from}
-use Rattle.uz_rules.specs.Kinds.{is_main}
+use Rattle.uz_transfer.specs.Memory.{address_range, with_pointer_range, all_flags, is_old, flags_number, sreg_value, flags_from}
+use Rattle.uz_transfer.specs.Kinds.{is_main}
 use Rattle.uz_rules.proofs.CoreKeeps.{hull_holds, set_same, set_other, whole, pair_word, pair_holds, val_meets, range_meets, core_with}
 use Rattle.uz_core.proofs.SregBits.{or_kept, bit_of_merged}
 

@@ -7,8 +7,8 @@ use Rattle.uz_schedule.specs.declared.facts.Val.{Val}
 use Rattle.uz_schedule.specs.declared.states.Instance.{Instance}
 use Rattle.uz_schedule.specs.declared.states.Point.{Point}
 use Rattle.uz_schedule.specs.Instances.{val_of, cell_span, pairs_of}
-use Rattle.uz_rules.specs.Values.{value_at, span_at}
-use Rattle.uz_rules.specs.Refusals.{range_inside}
+use Rattle.uz_transfer.specs.Values.{value_at, span_at}
+use Rattle.uz_transfer.specs.Refusals.{range_inside}
 use Rattle.uz_rules.specs.Inside.{all_below, value_inside, pairs_inside}
 use Rattle.uz_rules.specs.FactInclusion.{said_at, facts_inside}
 use Rattle.uz_rules.proofs.InsideMeets.{below_tells, ContentsInside, contents_tell}

@@ -32,15 +32,15 @@ use Rattle.uz_range.specs.Containment.{IsWithin}
 use Rattle.uz_range.specs.Rules.{bst_answer}
 use Rattle.uz_range.proofs.ShapesCover.{only}
 use Rattle.uz_range.proofs.PairsCover.{bst_covers}
-use Rattle.uz_rules.specs.Values.{span_of, value_at, pair_range}
+use Rattle.uz_transfer.specs.Values.{span_of, value_at, pair_range}
 use Rattle.uz_rules.specs.CoreMeets.{ValueHolds, FlagHolds, CoreMeets}
-use Rattle.uz_rules.specs.Kinds.{is_main}
-use Rattle.uz_rules.specs.Memory.{depth_of, slot_value}
-use Rattle.uz_rules.specs.Transfer.{bit_of_bool}
-use Rattle.uz_rules.specs.Exits.{decided, flag_of_kind, are_equal, test_decides, choices, skip_outcome, outcomes, numbers_from, skipped}
-use Rattle.uz_rules.specs.Exits.{targets}
-use Rattle.uz_rules.specs.Refusals.{target_fails, is_known_slot, fail_of}
-use Rattle.uz_rules.specs.Step.{exits_of}
+use Rattle.uz_transfer.specs.Kinds.{is_main}
+use Rattle.uz_transfer.specs.Memory.{depth_of, slot_value}
+use Rattle.uz_transfer.specs.Transfer.{bit_of_bool}
+use Rattle.uz_transfer.specs.Exits.{decided, flag_of_kind, are_equal, test_decides, choices, skip_outcome, outcomes, numbers_from, skipped}
+use Rattle.uz_transfer.specs.Exits.{targets}
+use Rattle.uz_transfer.specs.Refusals.{target_fails, is_known_slot, fail_of}
+use Rattle.uz_transfer.specs.Step.{exits_of}
 use Rattle.uz_core.specs.Core.{returns_from_interrupt}
 use Rattle.uz_rules.proofs.CoreKeeps.{in_span, register_byte, pair_holds}
 use Rattle.uz_rules.proofs.CoreSteps.{told}

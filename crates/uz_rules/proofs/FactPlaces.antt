@@ -6,7 +6,7 @@ use Rattle.uz_schedule.specs.declared.facts.Fact.{Fact}
 use Rattle.uz_schedule.specs.declared.facts.Val.TheVariants.{Range}
 use Rattle.uz_schedule.specs.Instances.{val_of, cell_span}
 use Rattle.uz_range.specs.Answers.{ends}
-use Rattle.uz_rules.specs.Values.{value_at, span_at}
+use Rattle.uz_transfer.specs.Values.{value_at, span_at}
 
 pub value_of_fact : (l c : ℕ) (facts : List Fact) (i : ℕ) (d : Fact) → i < length facts
     → value_at (map (val_of l c) facts) i ≡ val_of l c (slice_index_or facts i d)

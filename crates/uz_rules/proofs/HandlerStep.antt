@@ -29,13 +29,13 @@ use Rattle.uz_schedule.specs.declared.kinds.Kind.TheVariants.{Handler}
 use Rattle.uz_schedule.specs.declared.header.Head.{Head}
 use Rattle.uz_schedule.specs.declared.lines.EventKind.{EventKind}
 use Rattle.uz_schedule.specs.declared.states.Instance.{Instance}
-use Rattle.uz_rules.specs.declared.step.Exit.{Exit}
-use Rattle.uz_rules.specs.Kinds.{is_main, is_handler}
-use Rattle.uz_rules.specs.Refusals.{fail_of}
-use Rattle.uz_rules.specs.Step.{clears_flag, ends_line, following_of, sampled_of, successor}
-use Rattle.uz_rules.specs.Exits.{each_exit}
-use Rattle.uz_rules.specs.InTime.{keeps_time, sets_ahead, is_in_time, clock_holds}
-use Rattle.uz_rules.specs.Timer.{stores_top, top_after, temp_after}
+use Rattle.uz_transfer.specs.declared.step.Exit.{Exit}
+use Rattle.uz_transfer.specs.Kinds.{is_main, is_handler}
+use Rattle.uz_transfer.specs.Refusals.{fail_of}
+use Rattle.uz_transfer.specs.Step.{clears_flag, ends_line, following_of, sampled_of, successor}
+use Rattle.uz_transfer.specs.Exits.{each_exit}
+use Rattle.uz_transfer.specs.InTime.{keeps_time, sets_ahead, is_in_time, clock_holds}
+use Rattle.uz_transfer.specs.Timer.{stores_top, top_after, temp_after}
 use Rattle.uz_rules.specs.Meets.{TimerMeets, TimerCounts, Meets}
 use Rattle.uz_rules.specs.OneStep.{HandlerContained}
 use Rattle.uz_rules.proofs.Classes.{Before}

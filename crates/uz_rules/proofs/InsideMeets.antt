@@ -19,19 +19,19 @@ use Rattle.uz_schedule.specs.declared.header.Head.{Head}
 use Rattle.uz_schedule.specs.declared.states.Instance.{Instance}
 use Rattle.uz_range.specs.Answers.{ends}
 use Rattle.uz_range.specs.Containment.{IsWithin}
-use Rattle.uz_rules.specs.Values.{value_at, flag_at, pair_at, span_at}
+use Rattle.uz_transfer.specs.Values.{value_at, flag_at, pair_at, span_at}
 use Rattle.uz_rules.specs.CoreMeets.{ValueHolds, FlagHolds, CoreMeets}
-use Rattle.uz_rules.specs.Kinds.{cell_place}
+use Rattle.uz_transfer.specs.Kinds.{cell_place}
 use Rattle.uz_rules.specs.MemoryMeets.{MemoryMeets}
-use Rattle.uz_rules.specs.Refusals.{range_inside}
+use Rattle.uz_transfer.specs.Refusals.{range_inside}
 use Rattle.uz_rules.specs.Inside.{value_inside, flag_inside, all_below, same_kind, same_bool, same_place, registers_inside, pairs_inside}
 use Rattle.uz_rules.specs.Inside.{flags_inside, slots_inside, cells_inside, contents_inside, SamePlace, PlaceTells}
 use Rattle.uz_rules.specs.Inside.{PlaceHolds, KnownInItself}
 use Rattle.uz_rules.specs.Inside.{InsideKeeps, StateInside, is_old_register, RestoredGives}
 use Rattle.uz_rules.specs.Meets.{TimerMeets, TimerCounts}
-use Rattle.uz_rules.specs.Memory.{is_old}
+use Rattle.uz_transfer.specs.Memory.{is_old}
 use Rattle.uz_core.specs.Arithmetic.{bit_is_set}
-use Rattle.uz_rules.specs.Kinds.{is_main}
+use Rattle.uz_transfer.specs.Kinds.{is_main}
 use Rattle.uz_rules.proofs.CoreSteps.{low_seven, same_bit}
 use Rattle.std.proofs.lemmas.Nat.Bits.{same_from_bits_below}
 use Rattle.std.proofs.lemmas.List.{ext_get_or}

@@ -19,11 +19,11 @@ use Rattle.uz_schedule.specs.declared.states.Instance.{Instance}
 use Rattle.uz_range.specs.Answers.{is_single}
 use Rattle.uz_range.specs.Containment.{IsWithin}
 use Rattle.uz_range.proofs.ShapesCover.{only}
-use Rattle.uz_rules.specs.Values.{span_of, value_at}
-use Rattle.uz_rules.specs.Kinds.{cell_place, cell_range, depth_limit}
+use Rattle.uz_transfer.specs.Values.{span_of, value_at}
+use Rattle.uz_transfer.specs.Kinds.{cell_place, cell_range, depth_limit}
 use Rattle.uz_rules.specs.MemoryMeets.{HeadFits, Untouched}
-use Rattle.uz_rules.specs.Memory.{address_range, depth_of}
-use Rattle.uz_rules.specs.Refusals.{cell_admits, flag_fails, mask_fails, io_fails, may_store, fail_of}
+use Rattle.uz_transfer.specs.Memory.{address_range, depth_of}
+use Rattle.uz_transfer.specs.Refusals.{cell_admits, flag_fails, mask_fails, io_fails, may_store, fail_of}
 use Rattle.uz_rules.proofs.MemoryKeeps.{Wrote, missed}
 use Rattle.uz_rules.proofs.SpaceStores.{byte_wrote, bit_kept}
 use Rattle.uz_rules.proofs.StoreClasses.{cell_taken, free_by, room_left}

@@ -26,8 +26,3 @@ pub mod CountKeys
 pub mod PeriodLaws
 pub mod VisitLaws
 pub mod MovingLaws
-pub mod Sevens
-pub mod StepsOf
-pub mod NumberLaws
-pub mod Refused
-pub mod StoredPointer

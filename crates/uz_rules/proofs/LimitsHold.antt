@@ -22,8 +22,8 @@ use Rattle.uz_schedule.proofs.Starts.{length_within}
 use Rattle.uz_schedule.specs.Instances.{val_of, cell_span, is_in_box, clock_below, clock_at, instance_of, instance_at_clock, instance_in}
 use Rattle.uz_schedule.specs.Instances.{instance_at}
 use Rattle.uz_schedule.specs.WellFormed.{WellFormed, HeadFits as HeaderFits, BitFits, PointFits}
-use Rattle.uz_rules.specs.Kinds.{is_main, depth_limit, range_from, cell_range}
-use Rattle.uz_rules.specs.Memory.{all_flags, is_old}
+use Rattle.uz_transfer.specs.Kinds.{is_main, depth_limit, range_from, cell_range}
+use Rattle.uz_transfer.specs.Memory.{all_flags, is_old}
 use Rattle.uz_rules.specs.MemoryMeets.{HeadFits}
 use Rattle.uz_rules.specs.Limits.{InstanceLimits, LimitsGive}
 

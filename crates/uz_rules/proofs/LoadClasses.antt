@@ -24,13 +24,13 @@ use Rattle.uz_range.specs.Answers.{ends, is_single}
 use Rattle.uz_range.specs.Containment.{IsWithin}
 use Rattle.uz_range.specs.Rules.{pair_add_answer}
 use Rattle.uz_range.proofs.ShapesCover.{only}
-use Rattle.uz_rules.specs.Values.{exact_pair, pair_range, with_value, with_pair_value, known_byte}
+use Rattle.uz_transfer.specs.Values.{exact_pair, pair_range, with_value, with_pair_value, known_byte}
 use Rattle.uz_rules.specs.CoreMeets.{ValueHolds, CoreMeets}
-use Rattle.uz_rules.specs.Kinds.{cell_place, cell_range, is_main, is_handler}
+use Rattle.uz_transfer.specs.Kinds.{cell_place, cell_range, is_main, is_handler}
 use Rattle.uz_rules.specs.MemoryMeets.{StackHolds, MemoryMeets, HeadFits}
-use Rattle.uz_rules.specs.Memory.{all_flags, is_old, sreg_value, address_range, with_pointer_range, cell_value, value_at_address}
-use Rattle.uz_rules.specs.Memory.{loaded_value, flash_value, depth_of, slot_value}
-use Rattle.uz_rules.specs.Transfer.{transfer}
+use Rattle.uz_transfer.specs.Memory.{all_flags, is_old, sreg_value, address_range, with_pointer_range, cell_value, value_at_address}
+use Rattle.uz_transfer.specs.Memory.{loaded_value, flash_value, depth_of, slot_value}
+use Rattle.uz_transfer.specs.Transfer.{transfer}
 use Rattle.uz_rules.proofs.CoreKeeps.{whole, pair_word, pair_holds, val_meets}
 use Rattle.uz_rules.proofs.MemoryKeeps.{HasRange, tracked_has_range}
 use Rattle.uz_rules.proofs.SpaceStores.{choose_if, pin_low, timer_low}

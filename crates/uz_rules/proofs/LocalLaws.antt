@@ -10,8 +10,8 @@ use Rattle.uz_schedule.specs.declared.states.Instance.{Instance}
 use Rattle.uz_schedule.specs.declared.states.Point.{Point}
 use Rattle.uz_schedule.specs.declared.certificate.Cert.{Cert}
 use Rattle.uz_schedule.specs.Instances.{instance_at}
-use Rattle.uz_rules.specs.declared.fail.Fail.{Fail}
-use Rattle.uz_rules.specs.Step.{IsReadAt}
+use Rattle.uz_transfer.specs.declared.fail.Fail.{Fail}
+use Rattle.uz_transfer.specs.Step.{IsReadAt}
 use Rattle.uz_rules.specs.Successors.{lies_at, any_from, lies_in_box, LiesIn, LiesInPoint}
 use Rattle.uz_rules.specs.Local.{IsLocal, OneLocal, local_fail}
 

@@ -13,11 +13,11 @@ use Rattle.uz_schedule.specs.declared.facts.Val.{Val}
 use Rattle.uz_schedule.specs.declared.states.Instance.{Instance}
 use Rattle.uz_range.specs.Containment.{IsWithin}
 use Rattle.uz_range.specs.Answers.{ends}
-use Rattle.uz_rules.specs.Values.{value_at, span_at}
+use Rattle.uz_transfer.specs.Values.{value_at, span_at}
 use Rattle.uz_rules.specs.CoreMeets.{ValueHolds}
-use Rattle.uz_rules.specs.Kinds.{tracks, place_from, cell_place, range_from, cell_range, misses}
+use Rattle.uz_transfer.specs.Kinds.{tracks, place_from, cell_place, range_from, cell_range, misses}
 use Rattle.uz_rules.specs.MemoryMeets.{CellsHold, HeaderHolds, StackHolds, MemoryMeets, HeadFits}
-use Rattle.uz_rules.specs.Memory.{with_cell, with_slots}
+use Rattle.uz_transfer.specs.Memory.{with_cell, with_slots}
 use Rattle.uz_rules.proofs.CoreKeeps.{or_other, or_same}
 
 -- a byte is written at an address; what lies below RAM doesn't matter

@@ -38,13 +38,13 @@ use Rattle.uz_range.proofs.ChainedCovers.{chained_covers}
 use Rattle.uz_range.proofs.ItselfCovers.{same_and_covers, same_xor_covers, same_sub_covers}
 use Rattle.uz_range.proofs.PairsCover.{swap_covers, pair_add_covers, pair_sub_covers, bst_covers, bld_covers}
 use Rattle.uz_range.proofs.ProductsCover.{product_covers}
-use Rattle.uz_rules.specs.Values.{exact_pair, span_of, value_at, flag_at, pair_range, with_value, with_pair_range, with_pair_value}
-use Rattle.uz_rules.specs.Values.{with_flag_list, merged_flags}
+use Rattle.uz_transfer.specs.Values.{exact_pair, span_of, value_at, flag_at, pair_range, with_value, with_pair_range, with_pair_value}
+use Rattle.uz_transfer.specs.Values.{with_flag_list, merged_flags}
 use Rattle.uz_rules.specs.CoreMeets.{ValueHolds, FlagHolds, CoreMeets}
-use Rattle.uz_rules.specs.Arithmetic.{known_operand, binary_answer, same_register_answer, is_same_register, operation_answer}
-use Rattle.uz_rules.specs.Arithmetic.{is_self_copy, operation_value, binary_keeps, unary_answer, unary_keeps, pair_keeps, factors_answer}
-use Rattle.uz_rules.specs.Arithmetic.{product_keeps}
-use Rattle.uz_rules.specs.Transfer.{bit_of_bool, with_flag, transfer}
+use Rattle.uz_transfer.specs.Arithmetic.{known_operand, binary_answer, same_register_answer, is_same_register, operation_answer}
+use Rattle.uz_transfer.specs.Arithmetic.{is_self_copy, operation_value, binary_keeps, unary_answer, unary_keeps, pair_keeps, factors_answer}
+use Rattle.uz_transfer.specs.Arithmetic.{product_keeps}
+use Rattle.uz_transfer.specs.Transfer.{bit_of_bool, with_flag, transfer}
 use Rattle.uz_rules.proofs.CoreKeeps.{set_same, or_other, or_same, in_span, register_byte, pair_word, pair_holds, val_meets, range_meets}
 use Rattle.uz_rules.proofs.CoreKeeps.{core_with}
 use Rattle.uz_core.proofs.SregBits.{bit_of_with_bit}

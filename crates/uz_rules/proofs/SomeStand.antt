@@ -10,7 +10,7 @@ use Rattle.uz_core.proofs.StateKept.{reset_is_state}
 use Rattle.uz_schedule.specs.declared.facts.Bit.TheVariants.{Free}
 use Rattle.uz_schedule.specs.declared.facts.Val.TheVariants.{Range}
 use Rattle.uz_range.specs.Answers.{ends}
-use Rattle.uz_rules.specs.Values.{value_at}
+use Rattle.uz_transfer.specs.Values.{value_at}
 use Rattle.uz_schedule.specs.Blank.{blank_instance}
 use Rattle.uz_rules.specs.Example.{example_head, SomeInstructionBegins}
 use Rattle.uz_rules.proofs.CoreSteps.{seven_at}

@@ -32,14 +32,14 @@ use Rattle.uz_range.specs.Containment.{IsWithin, Admits}
 use Rattle.uz_range.proofs.ShapesCover.{only}
 use Rattle.uz_range.specs.Rules.{bst_answer}
 use Rattle.uz_range.proofs.PairsCover.{bst_covers}
-use Rattle.uz_rules.specs.Values.{span_of, with_flag_list, known_byte}
+use Rattle.uz_transfer.specs.Values.{span_of, with_flag_list, known_byte}
 use Rattle.uz_rules.specs.CoreMeets.{ValueHolds, CoreMeets}
-use Rattle.uz_rules.specs.Kinds.{cell_place, cell_range, misses, depth_limit, is_main}
+use Rattle.uz_transfer.specs.Kinds.{cell_place, cell_range, misses, depth_limit, is_main}
 use Rattle.uz_rules.specs.MemoryMeets.{depth_below, MemoryMeets, HeadFits}
-use Rattle.uz_rules.specs.Memory.{flags_from, with_cell, with_stored, stored_in, with_slots}
-use Rattle.uz_rules.specs.Transfer.{pc_values}
-use Rattle.uz_rules.specs.Emission.{byte_event, bit_event, level_after}
-use Rattle.uz_rules.specs.Refusals.{is_setup_register, stored_bit, flag_is, cell_admits, may_store, mask_fails}
+use Rattle.uz_transfer.specs.Memory.{flags_from, with_cell, with_stored, stored_in, with_slots}
+use Rattle.uz_transfer.specs.Transfer.{pc_values}
+use Rattle.uz_transfer.specs.Emission.{byte_event, bit_event, level_after}
+use Rattle.uz_transfer.specs.Refusals.{is_setup_register, stored_bit, flag_is, cell_admits, may_store, mask_fails}
 use Rattle.uz_rules.specs.Events.{event_of}
 use Rattle.uz_rules.specs.OneStep.{IsNoEntry}
 use Rattle.uz_rules.proofs.CoreKeeps.{in_span}

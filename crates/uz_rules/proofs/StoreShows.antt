@@ -19,9 +19,9 @@ use Rattle.uz_schedule.specs.declared.lines.EventKind.TheVariants.{Sync, Pixel, 
 use Rattle.uz_range.specs.Containment.{IsWithin, Admits}
 use Rattle.uz_range.specs.Rules.{bst_answer}
 use Rattle.uz_range.proofs.PairsCover.{bst_covers}
-use Rattle.uz_rules.specs.Values.{span_of}
-use Rattle.uz_rules.specs.Emission.{level_event, toggle_event, byte_event, bit_event, level_after}
-use Rattle.uz_rules.specs.Transfer.{bit_of_bool}
+use Rattle.uz_transfer.specs.Values.{span_of}
+use Rattle.uz_transfer.specs.Emission.{level_event, toggle_event, byte_event, bit_event, level_after}
+use Rattle.uz_transfer.specs.Transfer.{bit_of_bool}
 use Rattle.uz_rules.specs.Events.{event_of}
 use Rattle.uz_rules.specs.OneStep.{IsNoEntry}
 use Rattle.uz_rules.proofs.SpaceStores.{level_other, level_stored, level_toggled}

@@ -29,12 +29,12 @@ use Rattle.uz_range.specs.Containment.{IsWithin, Admits}
 use Rattle.uz_range.specs.Rules.{bst_answer}
 use Rattle.uz_range.proofs.ShapesCover.{only}
 use Rattle.uz_range.proofs.PairsCover.{bst_covers}
-use Rattle.uz_rules.specs.Values.{value_at}
+use Rattle.uz_transfer.specs.Values.{value_at}
 use Rattle.uz_rules.specs.CoreMeets.{ValueHolds}
-use Rattle.uz_rules.specs.Kinds.{depth_limit, is_main, is_handler}
-use Rattle.uz_rules.specs.Memory.{address_range, depth_of}
-use Rattle.uz_rules.specs.Refusals.{is_setup_register, stored_bit, flag_is, flag_fails, may_store, fail_of}
-use Rattle.uz_rules.specs.Step.{clears_flag}
+use Rattle.uz_transfer.specs.Kinds.{depth_limit, is_main, is_handler}
+use Rattle.uz_transfer.specs.Memory.{address_range, depth_of}
+use Rattle.uz_transfer.specs.Refusals.{is_setup_register, stored_bit, flag_is, flag_fails, may_store, fail_of}
+use Rattle.uz_transfer.specs.Step.{clears_flag}
 use Rattle.uz_rules.proofs.SpaceStores.{choose_if}
 use Rattle.uz_rules.proofs.StoreClasses.{SetsNothingElse, free_by, room_left}
 use Rattle.uz_rules.proofs.CoreSteps.{address_holds}

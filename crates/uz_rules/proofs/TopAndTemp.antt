@@ -17,11 +17,11 @@ use Rattle.uz_schedule.specs.declared.states.Instance.{Instance}
 use Rattle.uz_range.specs.Answers.{is_single}
 use Rattle.uz_range.specs.Containment.{IsWithin}
 use Rattle.uz_range.proofs.ShapesCover.{only}
-use Rattle.uz_rules.specs.Values.{span_of, value_at}
-use Rattle.uz_rules.specs.Kinds.{is_handler}
-use Rattle.uz_rules.specs.Memory.{address_range}
-use Rattle.uz_rules.specs.Refusals.{fail_of}
-use Rattle.uz_rules.specs.Timer.{top_after, temp_loaded, temp_after}
+use Rattle.uz_transfer.specs.Values.{span_of, value_at}
+use Rattle.uz_transfer.specs.Kinds.{is_handler}
+use Rattle.uz_transfer.specs.Memory.{address_range}
+use Rattle.uz_transfer.specs.Refusals.{fail_of}
+use Rattle.uz_transfer.specs.Timer.{top_after, temp_loaded, temp_after}
 use Rattle.uz_rules.proofs.CoreKeeps.{in_span, register_byte}
 use Rattle.uz_rules.proofs.CoreSteps.{address_holds}
 use Rattle.uz_rules.proofs.LoadClasses.{ram_not_core}

@@ -17,8 +17,8 @@ use Rattle.uz_rules.specs.declared.visit.Visit.{Visit}
 use Rattle.uz_rules.specs.Visit.{Keeps, IsVisit, IsAt}
 use Rattle.uz_rules.specs.Local.{local_fail, IsLocal}
 use Rattle.uz_rules.proofs.LocalLaws.{is_local}
-use Rattle.uz_rules.specs.declared.fail.Fail.{Fail}
-use Rattle.uz_rules.specs.Step.{IsReadAt}
+use Rattle.uz_transfer.specs.declared.fail.Fail.{Fail}
+use Rattle.uz_transfer.specs.Step.{IsReadAt}
 
 some_same : {A : Type 0} (a b : A) → Some a ≡ Some b → a ≡ b
 some_same a b e = cc

@@ -7,9 +7,9 @@ use Rattle.uz_schedule.specs.declared.header.Head.{Head}
 use Rattle.uz_schedule.specs.declared.lines.EventKind.{EventKind}
 use Rattle.uz_schedule.specs.declared.states.Instance.{Instance}
 use Rattle.uz_schedule.specs.Lines.{Lines}
-use Rattle.uz_rules.specs.declared.fail.Fail.{Fail}
-use Rattle.uz_rules.specs.declared.step.Step.{Step}
-use Rattle.uz_rules.specs.Step.{IsReadAt, step_of_row, successor}
+use Rattle.uz_transfer.specs.declared.fail.Fail.{Fail}
+use Rattle.uz_transfer.specs.declared.step.Step.{Step}
+use Rattle.uz_transfer.specs.Step.{IsReadAt, step_of_row, successor}
 use Rattle.uz_rules.specs.declared.next.Next.{Next}
 use Rattle.uz_rules.specs.Local.{first_exit}
 

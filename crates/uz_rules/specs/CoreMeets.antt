@@ -8,7 +8,7 @@ use Rattle.uz_schedule.specs.declared.states.Instance.{Instance}
 use Rattle.uz_core.specs.Arithmetic.{bit_is_set}
 use Rattle.uz_core.specs.Core.{Core, pair, register}
 use Rattle.uz_range.specs.Containment.{IsWithin}
-use Rattle.uz_rules.specs.Values.{value_at, flag_at, pair_at}
+use Rattle.uz_transfer.specs.Values.{value_at, flag_at, pair_at}
 
 -- `o` is the interrupted core; the interrupted flags are its SREG with bit 7 clear
 abbrev pub ValueHolds : Val → Core → ℕ → Type 0

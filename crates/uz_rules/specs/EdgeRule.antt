@@ -5,8 +5,8 @@ use Rattle.uz_schedule.specs.declared.lines.EventKind.{EventKind}
 use Rattle.uz_schedule.specs.declared.lines.EventKind.TheVariants.{Sync, Pixel, Sound, Leave}
 use Rattle.uz_schedule.specs.declared.states.Instance.{Instance}
 use Rattle.uz_schedule.specs.Schedule.{start_of, event_at}
-use Rattle.uz_rules.specs.declared.step.Exit.{Exit}
-pub use Rattle.uz_rules.specs.Exits.{each_exit}
+use Rattle.uz_transfer.specs.declared.step.Exit.{Exit}
+pub use Rattle.uz_transfer.specs.Exits.{each_exit}
 
 -- the position of the frame at which an instance stands
 abbrev pub position_of : Schedule → Instance → ℕ

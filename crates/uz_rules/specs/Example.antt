@@ -7,7 +7,7 @@ use Rattle.uz_schedule.specs.declared.kinds.Response.TheVariants.{Four}
 use Rattle.uz_hex.specs.Cells.{IsFlash, word_of}
 use Rattle.uz_core.specs.Core.{reset_core}
 use Rattle.uz_core.specs.Turn.{history_at_reset, state_at_reset}
-use Rattle.uz_rules.specs.declared.step.Step.{Step}
+use Rattle.uz_transfer.specs.declared.step.Step.{Step}
 use Rattle.uz_schedule.specs.Blank.{blank_instance}
 use Rattle.uz_schedule.specs.Lines.{Lines}
 use Rattle.uz_rules.specs.OneStep.{InstructionBegins}

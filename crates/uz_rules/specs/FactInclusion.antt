@@ -5,7 +5,7 @@ use Rattle.uz_schedule.specs.declared.states.Point.{Point}
 use Rattle.uz_schedule.specs.declared.lines.Schedule.{Schedule}
 use Rattle.uz_schedule.specs.Schedule.{length_of, start_of, level_at}
 use Rattle.uz_schedule.specs.Instances.{instance_of}
-use Rattle.uz_rules.specs.Refusals.{range_inside, is_some}
+use Rattle.uz_transfer.specs.Refusals.{range_inside, is_some}
 use Rattle.uz_rules.specs.Inside.{same_timer, contents_inside}
 use Rattle.uz_rules.specs.Successors.{same_program_place}
 

@@ -13,8 +13,8 @@ use Rattle.uz_schedule.specs.declared.states.Instance.{Instance}
 use Rattle.uz_core.specs.Core.{Core}
 use Rattle.uz_core.specs.CoreRange.{IsByte, IsCore}
 use Rattle.uz_range.specs.Answers.{ends}
-use Rattle.uz_rules.specs.Values.{value_at, flag_at, pair_at, span_at}
-use Rattle.uz_rules.specs.Refusals.{range_inside}
+use Rattle.uz_transfer.specs.Values.{value_at, flag_at, pair_at, span_at}
+use Rattle.uz_transfer.specs.Refusals.{range_inside}
 use Rattle.uz_rules.specs.CoreMeets.{CoreMeets}
 use Rattle.uz_rules.specs.MemoryMeets.{MemoryMeets}
 use Rattle.uz_rules.specs.Meets.{LevelMeets, Meets}
@@ -22,7 +22,7 @@ use Rattle.uz_core.specs.PadLine.{PadHistory}
 use Rattle.uz_core.specs.Turn.{State, sync_level}
 use Rattle.uz_core.specs.StateRange.{IsState}
 use Rattle.uz_schedule.specs.Ends.{Ends}
-use Rattle.uz_rules.specs.Memory.{is_old}
+use Rattle.uz_transfer.specs.Memory.{is_old}
 
 -- an interrupted value lies in 0..255, and in itself
 abbrev pub value_inside : Val → Val → Bool

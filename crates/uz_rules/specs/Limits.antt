@@ -5,8 +5,8 @@ use Rattle.uz_schedule.specs.declared.certificate.Cert.{Cert}
 use Rattle.uz_schedule.specs.Schedule.{scanline, length_of}
 use Rattle.uz_schedule.specs.Instances.{instance_at}
 use Rattle.uz_schedule.specs.WellFormed.{WellFormed}
-use Rattle.uz_rules.specs.Kinds.{depth_limit}
-use Rattle.uz_rules.specs.Memory.{depth_of}
+use Rattle.uz_transfer.specs.Kinds.{depth_limit}
+use Rattle.uz_transfer.specs.Memory.{depth_of}
 use Rattle.uz_rules.specs.MemoryMeets.{HeadFits}
 use Rattle.uz_rules.specs.Meets.{InstanceFits}
 

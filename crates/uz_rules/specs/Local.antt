@@ -13,17 +13,17 @@ use Rattle.uz_schedule.specs.declared.states.Rest.{Rest}
 use Rattle.uz_schedule.specs.declared.certificate.Cert.{Cert}
 use Rattle.uz_schedule.specs.Lines.{order_of}
 use Rattle.uz_schedule.specs.Instances.{instance_at}
-use Rattle.uz_rules.specs.declared.fail.Fail.{Fail}
-use Rattle.uz_rules.specs.declared.fail.Fail.TheVariants.{Opcode, Box, Edge, Clock, Successor, Restore}
-use Rattle.uz_rules.specs.declared.step.Exit.{Exit}
-use Rattle.uz_rules.specs.declared.step.Step.{Step}
-use Rattle.uz_rules.specs.Kinds.{is_main}
-use Rattle.uz_rules.specs.Refusals.{refuse_if}
-use Rattle.uz_rules.specs.Step.{IsReadAt, step_of_row, successor}
+use Rattle.uz_transfer.specs.declared.fail.Fail.{Fail}
+use Rattle.uz_transfer.specs.declared.fail.Fail.TheVariants.{Opcode, Box, Edge, Clock, Successor, Restore}
+use Rattle.uz_transfer.specs.declared.step.Exit.{Exit}
+use Rattle.uz_transfer.specs.declared.step.Step.{Step}
+use Rattle.uz_transfer.specs.Kinds.{is_main}
+use Rattle.uz_transfer.specs.Refusals.{refuse_if}
+use Rattle.uz_transfer.specs.Step.{IsReadAt, step_of_row, successor}
 use Rattle.uz_rules.specs.Inside.{cells_inside, restored}
 use Rattle.uz_rules.specs.EdgeRule.{position_of, each_exit, edges_fit}
 use Rattle.uz_rules.specs.Successors.{lies_in_any}
-use Rattle.uz_rules.specs.Emission.{main_emits}
+use Rattle.uz_transfer.specs.Emission.{main_emits}
 
 -- Words
 

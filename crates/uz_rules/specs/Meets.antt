@@ -11,8 +11,8 @@ use Rattle.uz_core.specs.PadLine.{PadHistory}
 use Rattle.uz_core.specs.Timer.{Timer, is_counting}
 use Rattle.uz_core.specs.Turn.{State, sync_level}
 use Rattle.uz_range.specs.Containment.{IsWithin}
-use Rattle.uz_rules.specs.Kinds.{depth_limit, is_main}
-use Rattle.uz_rules.specs.Memory.{all_flags, is_old, depth_of}
+use Rattle.uz_transfer.specs.Kinds.{depth_limit, is_main}
+use Rattle.uz_transfer.specs.Memory.{all_flags, is_old, depth_of}
 use Rattle.uz_rules.specs.CoreMeets.{CoreMeets}
 use Rattle.uz_rules.specs.MemoryMeets.{MemoryMeets}
 

@@ -8,8 +8,8 @@ use Rattle.uz_schedule.specs.declared.kinds.Kind.TheVariants.{Alone, Handler, Ma
 use Rattle.uz_schedule.specs.declared.states.Instance.{Instance}
 use Rattle.uz_core.specs.Core.{Core}
 use Rattle.uz_range.specs.Containment.{IsWithin}
-use Rattle.uz_rules.specs.Values.{value_at, span_at}
-use Rattle.uz_rules.specs.Kinds.{cell_place, cell_range}
+use Rattle.uz_transfer.specs.Values.{value_at, span_at}
+use Rattle.uz_transfer.specs.Kinds.{cell_place, cell_range}
 use Rattle.uz_rules.specs.CoreMeets.{ValueHolds}
 
 -- Bytes of the data space

@@ -18,13 +18,13 @@ use Rattle.uz_core.specs.StateRange.{IsState}
 use Rattle.uz_core.specs.Timer.{count_after, matches_within}
 use Rattle.uz_core.specs.Turn.{State, Turn, is_entry, sync_level}
 use Rattle.uz_core.specs.declared.machine.Edge.{Edge}
-use Rattle.uz_rules.specs.declared.step.Exit.{Exit}
-use Rattle.uz_rules.specs.declared.step.Step.{Step}
-use Rattle.uz_rules.specs.Memory.{depth_of}
-use Rattle.uz_rules.specs.Emission.{main_emits}
-use Rattle.uz_rules.specs.Kinds.{is_main, is_handler}
+use Rattle.uz_transfer.specs.declared.step.Exit.{Exit}
+use Rattle.uz_transfer.specs.declared.step.Step.{Step}
+use Rattle.uz_transfer.specs.Memory.{depth_of}
+use Rattle.uz_transfer.specs.Emission.{main_emits}
+use Rattle.uz_transfer.specs.Kinds.{is_main, is_handler}
 use Rattle.uz_schedule.specs.Lines.{Lines}
-use Rattle.uz_rules.specs.Step.{successor, IsStep}
+use Rattle.uz_transfer.specs.Step.{successor, IsStep}
 use Rattle.uz_rules.specs.MemoryMeets.{Untouched, HeadFits}
 use Rattle.uz_rules.specs.Events.{shown_at, shown, listed}
 use Rattle.uz_core.specs.declared.machine.EdgeKind.{EdgeKind}

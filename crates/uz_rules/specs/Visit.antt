@@ -6,7 +6,7 @@ use Rattle.uz_schedule.specs.declared.states.Point.{Point}
 use Rattle.uz_schedule.specs.declared.certificate.Cert.{Cert}
 use Rattle.uz_schedule.specs.Instances.{instance_at}
 use Rattle.uz_rules.specs.Moving.{IsGrowing, IsOfPoint}
-use Rattle.uz_rules.specs.Step.{IsReadAt}
+use Rattle.uz_transfer.specs.Step.{IsReadAt}
 use Rattle.uz_rules.specs.declared.visit.Visit.{Visit}
 
 -- where an instance is kept, it is one that the point says, and the places of the facts that depend on the line or the count are noted

@@ -3,8 +3,8 @@
 
 ghost use Rattle.std.specs.Prelude.{◌≡◌, true, length, map};
 ghost use Rattle.uz_schedule.specs.Instances.{val_of, cell_span};
-ghost use Rattle.uz_rules.specs.Values.{value_at, span_at};
-ghost use Rattle.uz_rules.specs.Refusals.{range_inside};
+ghost use Rattle.uz_transfer.specs.Values.{value_at, span_at};
+ghost use Rattle.uz_transfer.specs.Refusals.{range_inside};
 ghost use Rattle.uz_rules.specs.Inside.{value_inside, all_below};
 ghost use Rattle.uz_rules.specs.FactInclusion.{facts_inside};
 

@@ -5,7 +5,7 @@ ghost use Rattle.uz_schedule.specs.Limits.{ScheduleFits};
 ghost use Rattle.uz_schedule.specs.Schedule.{scanline, event_at};
 ghost use Rattle.uz_rules.specs.EdgeRule.{position_of, is_kind, is_event, is_quiet, emits_as_scheduled, edges_fit};
 
-use crate::Exit;
+use uz_transfer::Exit;
 use uz_schedule::{EventKind, Instance, Schedule};
 
 /// Whether two events are one.

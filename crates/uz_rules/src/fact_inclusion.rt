@@ -4,8 +4,8 @@
 ghost use Rattle.std.specs.Prelude.{◌≡◌, ◌<◌, length, map, true};
 ghost use Rattle.uz_schedule.specs.Ends.{whole_byte};
 ghost use Rattle.uz_schedule.specs.Instances.{val_of, cell_span};
-ghost use Rattle.uz_rules.specs.Values.{value_at, span_at};
-ghost use Rattle.uz_rules.specs.Refusals.{range_inside};
+ghost use Rattle.uz_transfer.specs.Values.{value_at, span_at};
+ghost use Rattle.uz_transfer.specs.Refusals.{range_inside};
 ghost use Rattle.uz_rules.specs.Inside.{value_inside, all_below, registers_inside, slots_inside, cells_inside};
 ghost use Rattle.uz_rules.specs.FactInclusion.{facts_inside};
 

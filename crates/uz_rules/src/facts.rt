@@ -2,7 +2,7 @@
 
 ghost use Rattle.std.specs.Prelude.{◌≡◌, ◌<◌, length, map};
 ghost use Rattle.uz_schedule.specs.Instances.{val_of, cell_span};
-ghost use Rattle.uz_rules.specs.Values.{value_at, span_at};
+ghost use Rattle.uz_transfer.specs.Values.{value_at, span_at};
 
 use uz_schedule::{Fact, Span, Val, span_of, val_of};
 

@@ -1,9 +1,9 @@
 //! When one instance lies in another, and when a handler has restored what it interrupted.
 
 ghost use Rattle.std.specs.Prelude.{◌≡◌, ◌<◌, ◌&&◌, not, length, nat_eq};
-ghost use Rattle.uz_rules.specs.Values.{value_at, flag_at, pair_at, span_at};
-ghost use Rattle.uz_rules.specs.Memory.{is_old};
-ghost use Rattle.uz_rules.specs.Refusals.{range_inside};
+ghost use Rattle.uz_transfer.specs.Values.{value_at, flag_at, pair_at, span_at};
+ghost use Rattle.uz_transfer.specs.Memory.{is_old};
+ghost use Rattle.uz_transfer.specs.Refusals.{range_inside};
 ghost use Rattle.uz_rules.specs.Inside.{value_inside, flag_inside, all_below, same_kind, same_timer, same_place};
 ghost use Rattle.uz_rules.specs.Inside.{registers_inside, pairs_inside, flags_inside, slots_inside, cells_inside};
 ghost use Rattle.uz_rules.specs.Inside.{contents_inside, known_inside, inside, is_old_register, restored};

@@ -3,8 +3,8 @@
 ghost use Rattle.std.specs.Prelude.{◌≡◌, ◌<◌, ◌+◌, true, ℕ, map};
 ghost use Rattle.uz_schedule.specs.Ends.{whole_byte, whole_pair, hull};
 ghost use Rattle.uz_schedule.specs.Instances.{val_of, cell_span, hull_at, pair_of, pairs_of};
-ghost use Rattle.uz_rules.specs.Values.{pair_at};
-ghost use Rattle.uz_rules.specs.Refusals.{range_inside};
+ghost use Rattle.uz_transfer.specs.Values.{pair_at};
+ghost use Rattle.uz_transfer.specs.Refusals.{range_inside};
 ghost use Rattle.uz_rules.specs.Inside.{pairs_inside};
 
 use crate::inclusion::wide_inside;

@@ -4,13 +4,13 @@ ghost use Rattle.std.specs.Prelude.{◌≡◌, ◌<◌, ◌≤◌, [], Ok, Err, 
 ghost use Rattle.uz_schedule.specs.Lines.{order_of};
 ghost use Rattle.uz_schedule.specs.Limits.{most_lines};
 ghost use Rattle.uz_schedule.specs.Schedule.{scanline, length_of};
-ghost use Rattle.uz_rules.specs.Kinds.{depth_limit};
-ghost use Rattle.uz_rules.specs.Step.{at_exit};
+ghost use Rattle.uz_transfer.specs.Kinds.{depth_limit};
+ghost use Rattle.uz_transfer.specs.Step.{at_exit};
 ghost use Rattle.uz_rules.specs.After.{timed, next_of, IsAfter};
 
 use crate::local_rule::first_exit;
 use crate::next::Next;
-use crate::{Exit, Fail, Step, abstract_step, copied, put_at};
+use uz_transfer::{Exit, Fail, Step, abstract_step, copied, put_at};
 use arrayvec::ArrayVec;
 use uz_hex::Image;
 use uz_schedule::{EventKind, Head, Instance, Schedule};

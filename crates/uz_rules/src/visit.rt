@@ -11,7 +11,7 @@ use crate::growing::{Growing, growing_of};
 use crate::local_rule::{answer, count, instance_fail, is_stop, point_of, read_at};
 use crate::moving::move_to;
 use crate::place::place_of;
-use crate::{Fail, Step};
+use uz_transfer::{Fail, Step};
 use avr_table::Instr;
 use uz_core::effect;
 use uz_hex::Image;

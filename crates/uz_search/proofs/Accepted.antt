@@ -7,7 +7,7 @@ use Rattle.uz_schedule.specs.Schedule.{length_of, start_of, event_at, response_c
 use Rattle.uz_schedule.specs.declared.header.Head.{Head}
 use Rattle.uz_schedule.specs.declared.states.Point.{Point}
 use Rattle.uz_schedule.specs.declared.states.Rest.{Rest}
-use Rattle.uz_rules.specs.Step.{IsReadAt}
+use Rattle.uz_transfer.specs.Step.{IsReadAt}
 use Rattle.uz_rules.specs.Local.{IsLocal, local_fail}
 use Rattle.uz_check.specs.FrameRules.{RestPasses}
 use Rattle.uz_search.specs.Following.{lines_of}

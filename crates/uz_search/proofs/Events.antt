@@ -16,13 +16,13 @@ use Rattle.uz_core.specs.declared.machine.Effect.{Effect}
 use Rattle.uz_core.specs.declared.machine.Effect.TheVariants.{NoOperation, Store, WriteIoBit, Return}
 use Rattle.uz_range.specs.Answers.{is_single}
 use Rattle.uz_range.specs.Rules.{bst_answer}
-use Rattle.uz_rules.specs.Emission.{level_event, toggle_event, byte_event, bit_event, emission_at, level_after}
-use Rattle.uz_rules.specs.Kinds.{is_handler}
-use Rattle.uz_rules.specs.Memory.{address_range}
-use Rattle.uz_rules.specs.Refusals.{fail_of}
-use Rattle.uz_rules.specs.declared.fail.Fail.TheVariants.{Return as ReturnWhy}
-use Rattle.uz_rules.specs.Transfer.{bit_of_bool}
-use Rattle.uz_rules.specs.Values.{span_of, value_at}
+use Rattle.uz_transfer.specs.Emission.{level_event, toggle_event, byte_event, bit_event, emission_at, level_after}
+use Rattle.uz_transfer.specs.Kinds.{is_handler}
+use Rattle.uz_transfer.specs.Memory.{address_range}
+use Rattle.uz_transfer.specs.Refusals.{fail_of}
+use Rattle.uz_transfer.specs.declared.fail.Fail.TheVariants.{Return as ReturnWhy}
+use Rattle.uz_transfer.specs.Transfer.{bit_of_bool}
+use Rattle.uz_transfer.specs.Values.{span_of, value_at}
 use Rattle.uz_search.proofs.Lists.{choose}
 
 -- a store's event: sync to the other level, a pixel or a sound

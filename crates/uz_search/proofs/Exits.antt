@@ -16,12 +16,12 @@ use Rattle.uz_core.proofs.RowClocks.{clocks_within, stops}
 use Rattle.uz_schedule.specs.declared.header.Head.{Head}
 use Rattle.uz_schedule.specs.declared.lines.EventKind.{EventKind}
 use Rattle.uz_schedule.specs.declared.states.Instance.{Instance}
-use Rattle.uz_rules.specs.declared.step.Exit.{Exit}
-use Rattle.uz_rules.specs.Emission.{emission}
-use Rattle.uz_rules.specs.Exits.{choices, decided, flag_of_kind, test_decides, skip_outcome, outcomes, targets, jump_pcs, numbers_from}
-use Rattle.uz_rules.specs.Refusals.{fail_of}
-use Rattle.uz_rules.specs.Step.{exits_of}
-use Rattle.uz_rules.specs.Values.{pair_range}
+use Rattle.uz_transfer.specs.declared.step.Exit.{Exit}
+use Rattle.uz_transfer.specs.Emission.{emission}
+use Rattle.uz_transfer.specs.Exits.{choices, decided, flag_of_kind, test_decides, skip_outcome, outcomes, targets, jump_pcs, numbers_from}
+use Rattle.uz_transfer.specs.Refusals.{fail_of}
+use Rattle.uz_transfer.specs.Step.{exits_of}
+use Rattle.uz_transfer.specs.Values.{pair_range}
 use Rattle.uz_search.specs.Following.{Among, Flash}
 use Rattle.uz_search.proofs.Lists.{of_map, append_cases}
 

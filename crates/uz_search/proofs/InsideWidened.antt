@@ -10,8 +10,8 @@ use Rattle.uz_schedule.specs.declared.facts.Bit.TheVariants.{Zero, One, Free, Ol
 use Rattle.uz_schedule.specs.declared.facts.Val.{Val}
 use Rattle.uz_schedule.specs.declared.facts.Val.TheVariants.{Range, Old, OldFlags}
 use Rattle.uz_schedule.specs.declared.states.Instance.{Instance}
-use Rattle.uz_rules.specs.Refusals.{range_inside}
-use Rattle.uz_rules.specs.Values.{flag_at, pair_at, span_at, value_at}
+use Rattle.uz_transfer.specs.Refusals.{range_inside}
+use Rattle.uz_transfer.specs.Values.{flag_at, pair_at, span_at, value_at}
 use Rattle.uz_rules.specs.Inside.{all_below, cells_inside, flag_inside, flags_inside, inside, pairs_inside, registers_inside}
 use Rattle.uz_rules.specs.Inside.{place_of_itself, same_place, slots_inside, value_inside, PlaceHolds}
 use Rattle.uz_search.specs.declared.program.Program.{Program}

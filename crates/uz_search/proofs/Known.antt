@@ -16,9 +16,9 @@ use Rattle.uz_schedule.specs.declared.kinds.Kind.{Kind}
 use Rattle.uz_schedule.specs.declared.states.Instance.{Instance}
 use Rattle.uz_range.specs.Answers.{ends}
 use Rattle.uz_range.specs.Rules.{low_answer, high_answer}
-use Rattle.uz_rules.specs.Memory.{is_old, with_slots}
-use Rattle.uz_rules.specs.Values.{span_of, value_at, flag_at, pair_at, each_flag, byte_hull, is_pointer, pair_number, pair_range}
-use Rattle.uz_rules.specs.Values.{pairs_after_byte, with_value, with_pair_range, with_pair_value, with_flag_list, merged_flags}
+use Rattle.uz_transfer.specs.Memory.{is_old, with_slots}
+use Rattle.uz_transfer.specs.Values.{span_of, value_at, flag_at, pair_at, each_flag, byte_hull, is_pointer, pair_number, pair_range}
+use Rattle.uz_transfer.specs.Values.{pairs_after_byte, with_value, with_pair_range, with_pair_value, with_flag_list, merged_flags}
 use Rattle.uz_search.proofs.VisitingLemmas.{some_is}
 use Rattle.uz_search.specs.Limits.{Each, IsOpen, OldFits}
 use Rattle.uz_search.proofs.NewFlags.{AreNew, new_at}

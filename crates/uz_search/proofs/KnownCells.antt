@@ -15,9 +15,9 @@ use Rattle.uz_schedule.specs.declared.kinds.Kind.TheVariants.{Main, Handler, Alo
 use Rattle.uz_schedule.specs.declared.kinds.Owner.{Owner}
 use Rattle.uz_schedule.specs.declared.kinds.Owner.TheVariants.{Main as MainOwner, Handler as HandlerOwner}
 use Rattle.uz_range.specs.Answers.{is_single}
-use Rattle.uz_rules.specs.Kinds.{tracks, place_from, cell_place, range_from, cell_range, misses}
-use Rattle.uz_rules.specs.Refusals.{cell_admits, may_store, range_inside}
-use Rattle.uz_rules.specs.Values.{span_of}
+use Rattle.uz_transfer.specs.Kinds.{tracks, place_from, cell_place, range_from, cell_range, misses}
+use Rattle.uz_transfer.specs.Refusals.{cell_admits, may_store, range_inside}
+use Rattle.uz_transfer.specs.Values.{span_of}
 use Rattle.uz_search.proofs.VisitingLemmas.{some_is}
 
 -- both definitions of what a kind tracks

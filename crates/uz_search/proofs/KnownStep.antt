@@ -24,18 +24,18 @@ use Rattle.uz_schedule.specs.declared.kinds.Kind.TheVariants.{Main, Handler, Alo
 use Rattle.uz_schedule.specs.declared.states.Instance.{Instance}
 use Rattle.uz_range.specs.Answers.{is_known, is_single}
 use Rattle.uz_range.specs.Rules.{bst_answer, pair_add_answer, pair_sub_answer}
-use Rattle.uz_rules.specs.declared.fail.Fail.{Fail}
-use Rattle.uz_rules.specs.declared.fail.Fail.TheVariants as why
-use Rattle.uz_rules.specs.Arithmetic.{known_operand, operation_answer, operation_value, is_same_register, is_self_copy, binary_keeps}
-use Rattle.uz_rules.specs.Arithmetic.{unary_answer, unary_keeps, add_to_pair_answer, pair_keeps, factors_answer, product_keeps}
-use Rattle.uz_rules.specs.Kinds.{cell_place, cell_range, depth_limit, is_handler, is_main}
-use Rattle.uz_rules.specs.Memory.{with_slots, all_flags, is_old, sreg_value, flags_from, flags_number, address_range, with_pointer_range}
-use Rattle.uz_rules.specs.Memory.{cell_value, value_at_address, loaded_value, flash_value, with_cell, with_stored, stored_in, slot_value}
-use Rattle.uz_rules.specs.Memory.{depth_of as slots_of}
-use Rattle.uz_rules.specs.Refusals.{fail_of, flag_fails, mask_fails, may_store, refuse_if}
-use Rattle.uz_rules.specs.Transfer.{bit_of_bool, pc_values, transfer}
-use Rattle.uz_rules.specs.Values.{any_byte, exact_pair, known_byte, merged_flags, pair_range, span_of, value_at, with_flag_list}
-use Rattle.uz_rules.specs.Values.{with_pair_value}
+use Rattle.uz_transfer.specs.declared.fail.Fail.{Fail}
+use Rattle.uz_transfer.specs.declared.fail.Fail.TheVariants as why
+use Rattle.uz_transfer.specs.Arithmetic.{known_operand, operation_answer, operation_value, is_same_register, is_self_copy, binary_keeps}
+use Rattle.uz_transfer.specs.Arithmetic.{unary_answer, unary_keeps, add_to_pair_answer, pair_keeps, factors_answer, product_keeps}
+use Rattle.uz_transfer.specs.Kinds.{cell_place, cell_range, depth_limit, is_handler, is_main}
+use Rattle.uz_transfer.specs.Memory.{with_slots, all_flags, is_old, sreg_value, flags_from, flags_number, address_range, with_pointer_range}
+use Rattle.uz_transfer.specs.Memory.{cell_value, value_at_address, loaded_value, flash_value, with_cell, with_stored, stored_in, slot_value}
+use Rattle.uz_transfer.specs.Memory.{depth_of as slots_of}
+use Rattle.uz_transfer.specs.Refusals.{fail_of, flag_fails, mask_fails, may_store, refuse_if}
+use Rattle.uz_transfer.specs.Transfer.{bit_of_bool, pc_values, transfer}
+use Rattle.uz_transfer.specs.Values.{any_byte, exact_pair, known_byte, merged_flags, pair_range, span_of, value_at, with_flag_list}
+use Rattle.uz_transfer.specs.Values.{with_pair_value}
 use Rattle.uz_search.specs.Following.{Flash}
 use Rattle.uz_search.proofs.Lists.{choose}
 use Rattle.uz_search.specs.Limits.{Each, OldFits}

@@ -22,17 +22,17 @@ use Rattle.uz_schedule.specs.declared.kinds.Kind.TheVariants.{Main, Handler, Alo
 use Rattle.uz_schedule.specs.declared.lines.EventKind.{EventKind}
 use Rattle.uz_schedule.specs.declared.lines.EventKind.TheVariants.{Sync, Pixel, Sound, Leave}
 use Rattle.uz_schedule.specs.declared.states.Instance.{Instance}
-use Rattle.uz_rules.specs.declared.fail.Fail.{Fail}
-use Rattle.uz_rules.specs.declared.fail.Fail.TheVariants.{Opcode, Edge, Clock, Restore, Successor}
-use Rattle.uz_rules.specs.declared.step.Exit.{Exit}
-use Rattle.uz_rules.specs.declared.step.Step.{Step}
-use Rattle.uz_rules.specs.Kinds.{is_main}
-use Rattle.uz_rules.specs.Emission.{emission}
-use Rattle.uz_rules.specs.Exits.{outcomes}
-use Rattle.uz_rules.specs.InTime.{clock_holds}
-use Rattle.uz_rules.specs.Refusals.{fail_of, range_inside, refuse_if}
-use Rattle.uz_rules.specs.Step.{IsReadAt, following_of, step_of_row, step_unless, successor}
-use Rattle.uz_rules.specs.Values.{span_at}
+use Rattle.uz_transfer.specs.declared.fail.Fail.{Fail}
+use Rattle.uz_transfer.specs.declared.fail.Fail.TheVariants.{Opcode, Edge, Clock, Restore, Successor}
+use Rattle.uz_transfer.specs.declared.step.Exit.{Exit}
+use Rattle.uz_transfer.specs.declared.step.Step.{Step}
+use Rattle.uz_transfer.specs.Kinds.{is_main}
+use Rattle.uz_transfer.specs.Emission.{emission}
+use Rattle.uz_transfer.specs.Exits.{outcomes}
+use Rattle.uz_transfer.specs.InTime.{clock_holds}
+use Rattle.uz_transfer.specs.Refusals.{fail_of, range_inside, refuse_if}
+use Rattle.uz_transfer.specs.Step.{IsReadAt, following_of, step_of_row, step_unless, successor}
+use Rattle.uz_transfer.specs.Values.{span_at}
 use Rattle.uz_rules.specs.declared.next.Next.{Next}
 use Rattle.uz_rules.specs.After.{timed, next_of}
 use Rattle.uz_rules.specs.EdgeRule.{position_of, is_kind, is_event, is_quiet, emits_as_scheduled, each_exit, edges_fit}

@@ -23,10 +23,10 @@ use Rattle.uz_range.specs.Answers.{negative_wide_flag, exact_answer, arithmetic_
 use Rattle.uz_range.specs.Answers.{open_wide_answer}
 use Rattle.uz_range.specs.Rules.{wrapped_sum, wrapped_difference, wrapped_pair_sum, wrapped_pair_difference, sum_answer, difference_answer}
 use Rattle.uz_range.specs.Rules.{chained_answer, chained_zero, bst_answer, product_answer, product_by}
-use Rattle.uz_rules.specs.Arithmetic.{binary_answer, same_register_answer, is_same_register, operation_answer, known_operand}
-use Rattle.uz_rules.specs.Arithmetic.{unary_answer, add_to_pair_answer, factors_answer}
-use Rattle.uz_rules.specs.Memory.{is_old}
-use Rattle.uz_rules.specs.Values.{flag_at, span_of, value_at}
+use Rattle.uz_transfer.specs.Arithmetic.{binary_answer, same_register_answer, is_same_register, operation_answer, known_operand}
+use Rattle.uz_transfer.specs.Arithmetic.{unary_answer, add_to_pair_answer, factors_answer}
+use Rattle.uz_transfer.specs.Memory.{is_old}
+use Rattle.uz_transfer.specs.Values.{flag_at, span_of, value_at}
 use Rattle.uz_search.proofs.Lists.{choose}
 
 -- each flag of a list is new

@@ -7,13 +7,13 @@ use Rattle.uz_core.specs.Effects.{effect_of}
 use Rattle.uz_schedule.specs.Lines.{Lines}
 use Rattle.uz_schedule.specs.declared.lines.EventKind.{EventKind}
 use Rattle.uz_schedule.specs.declared.states.Instance.{Instance}
-use Rattle.uz_rules.specs.declared.fail.Fail.{Fail}
-use Rattle.uz_rules.specs.declared.step.Exit.{Exit}
-use Rattle.uz_rules.specs.declared.step.Step.{Step}
-use Rattle.uz_rules.specs.Emission.{emission}
-use Rattle.uz_rules.specs.Refusals.{fail_of}
-use Rattle.uz_rules.specs.InTime.{clock_holds}
-use Rattle.uz_rules.specs.Step.{all_exits, at_exit, clears_flag, draft_of, step_of_row, step_unless}
+use Rattle.uz_transfer.specs.declared.fail.Fail.{Fail}
+use Rattle.uz_transfer.specs.declared.step.Exit.{Exit}
+use Rattle.uz_transfer.specs.declared.step.Step.{Step}
+use Rattle.uz_transfer.specs.Emission.{emission}
+use Rattle.uz_transfer.specs.Refusals.{fail_of}
+use Rattle.uz_transfer.specs.InTime.{clock_holds}
+use Rattle.uz_transfer.specs.Step.{all_exits, at_exit, clears_flag, draft_of, step_of_row, step_unless}
 use Rattle.uz_rules.specs.declared.next.Next.{Next}
 use Rattle.uz_rules.specs.After.{timed, next_of}
 use Rattle.uz_rules.specs.Local.{first_exit}

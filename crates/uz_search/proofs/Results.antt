@@ -15,13 +15,13 @@ use Rattle.uz_schedule.specs.declared.kinds.Kind.TheVariants.{Main, Handler, Alo
 use Rattle.uz_schedule.specs.declared.lines.EventKind.{EventKind}
 use Rattle.uz_schedule.specs.declared.lines.EventKind.TheVariants.{Sync, Pixel, Sound, Leave}
 use Rattle.uz_schedule.specs.declared.states.Instance.{Instance}
-use Rattle.uz_rules.specs.declared.step.Exit.{Exit}
-use Rattle.uz_rules.specs.Emission.{emission, emission_at, level_after}
-use Rattle.uz_rules.specs.Exits.{outcomes}
-use Rattle.uz_rules.specs.Kinds.{is_main}
-use Rattle.uz_rules.specs.Step.{clears_flag, ends_line, following_of, at_exit, sampled_of}
-use Rattle.uz_rules.specs.Timer.{with_timer}
-use Rattle.uz_rules.specs.Values.{pair_range}
+use Rattle.uz_transfer.specs.declared.step.Exit.{Exit}
+use Rattle.uz_transfer.specs.Emission.{emission, emission_at, level_after}
+use Rattle.uz_transfer.specs.Exits.{outcomes}
+use Rattle.uz_transfer.specs.Kinds.{is_main}
+use Rattle.uz_transfer.specs.Step.{clears_flag, ends_line, following_of, at_exit, sampled_of}
+use Rattle.uz_transfer.specs.Timer.{with_timer}
+use Rattle.uz_transfer.specs.Values.{pair_range}
 use Rattle.uz_rules.specs.declared.next.Next.{Next}
 use Rattle.uz_rules.specs.After.{timed}
 use Rattle.uz_rules.specs.Local.{first_exit}

@@ -12,7 +12,7 @@ use Rattle.uz_search.specs.declared.marks.Shown.{Shown}
 use Rattle.uz_search.specs.declared.returns.Return.{Return}
 use Rattle.uz_search.specs.Returning.{KeepsReturns}
 use Rattle.uz_search.proofs.VisitingLemmas.{some_is, among_more}
-use Rattle.uz_rules.specs.declared.fail.Fail.{Fail}
+use Rattle.uz_transfer.specs.declared.fail.Fail.{Fail}
 use Rattle.uz_search.specs.declared.program.Program.{Program}
 use Rattle.uz_search.specs.Following.{Among, Flash, After, Follows, followers_of, most_clocks}
 use Rattle.uz_search.specs.Stuck.{StuckWith}

@@ -6,7 +6,7 @@ use Rattle.std.proofs.lemmas.List.{length-replicate}
 use Rattle.std.proofs.lemmas.Option.{slice_get_within}
 use Rattle.uz_schedule.specs.declared.states.Instance.{Instance}
 use Rattle.uz_rules.specs.declared.next.Next.{Next}
-use Rattle.uz_rules.specs.declared.fail.Fail.{Fail}
+use Rattle.uz_transfer.specs.declared.fail.Fail.{Fail}
 use Rattle.uz_search.specs.declared.marks.Mark.{Mark}
 use Rattle.uz_search.specs.declared.marks.Mark.TheVariants.{Unpassed}
 use Rattle.uz_search.specs.declared.returns.Return.{Return}

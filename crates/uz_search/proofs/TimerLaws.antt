@@ -12,14 +12,14 @@ use Rattle.uz_schedule.specs.declared.kinds.Kind.{Kind}
 use Rattle.uz_schedule.specs.declared.kinds.Kind.TheVariants.{Main, Handler, Alone}
 use Rattle.uz_schedule.specs.declared.states.Instance.{Instance}
 use Rattle.uz_range.specs.Answers.{is_single}
-use Rattle.uz_rules.specs.declared.fail.Fail.{Fail}
-use Rattle.uz_rules.specs.declared.fail.Fail.TheVariants as why
-use Rattle.uz_rules.specs.Kinds.{is_handler}
-use Rattle.uz_rules.specs.Memory.{address_range}
-use Rattle.uz_rules.specs.Refusals.{fail_of, flag_fails, io_fails, is_setup_register, mask_fails, may_store, refuse_if}
-use Rattle.uz_rules.specs.Refusals.{top_fails}
-use Rattle.uz_rules.specs.Timer.{temp_after, temp_loaded, top_after}
-use Rattle.uz_rules.specs.Values.{span_of, value_at}
+use Rattle.uz_transfer.specs.declared.fail.Fail.{Fail}
+use Rattle.uz_transfer.specs.declared.fail.Fail.TheVariants as why
+use Rattle.uz_transfer.specs.Kinds.{is_handler}
+use Rattle.uz_transfer.specs.Memory.{address_range}
+use Rattle.uz_transfer.specs.Refusals.{fail_of, flag_fails, io_fails, is_setup_register, mask_fails, may_store, refuse_if}
+use Rattle.uz_transfer.specs.Refusals.{top_fails}
+use Rattle.uz_transfer.specs.Timer.{temp_after, temp_loaded, top_after}
+use Rattle.uz_transfer.specs.Values.{span_of, value_at}
 
 -- Lines
 

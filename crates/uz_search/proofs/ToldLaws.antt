@@ -12,11 +12,11 @@ use Rattle.uz_schedule.specs.Told.{instance_told, IsInstanceTold}
 use Rattle.uz_schedule.specs.declared.facts.Val.{Val}
 use Rattle.uz_schedule.specs.declared.header.Head.{Head}
 use Rattle.uz_schedule.specs.declared.states.Instance.{Instance}
-use Rattle.uz_rules.specs.Memory.{stored_in, with_cell, with_pointer_range, with_stored}
-use Rattle.uz_rules.specs.Transfer.{transfer}
-use Rattle.uz_rules.specs.Values.{span_of, value_at, with_value}
-use Rattle.uz_rules.specs.Memory.{address_range}
-use Rattle.uz_rules.specs.Kinds.{cell_place}
+use Rattle.uz_transfer.specs.Memory.{stored_in, with_cell, with_pointer_range, with_stored}
+use Rattle.uz_transfer.specs.Transfer.{transfer}
+use Rattle.uz_transfer.specs.Values.{span_of, value_at, with_value}
+use Rattle.uz_transfer.specs.Memory.{address_range}
+use Rattle.uz_transfer.specs.Kinds.{cell_place}
 
 -- y has all of x that isn't told
 abbrev pub LeavesUntold : Instance → Instance → Type 0

@@ -28,13 +28,13 @@ use Rattle.uz_schedule.specs.declared.kinds.Kind.{Kind}
 use Rattle.uz_schedule.specs.declared.kinds.Kind.TheVariants.{Handler}
 use Rattle.uz_schedule.specs.declared.states.Instance.{Instance}
 use Rattle.uz_range.specs.Answers.{ends}
-use Rattle.uz_rules.specs.declared.fail.Fail.{Fail}
-use Rattle.uz_rules.specs.declared.fail.Fail.TheVariants as why
-use Rattle.uz_rules.specs.declared.step.Exit.{Exit}
-use Rattle.uz_rules.specs.Exits.{outcomes, targets, jump_pcs, numbers_from}
-use Rattle.uz_rules.specs.Refusals.{fail_of, refuse_if, target_fails}
-use Rattle.uz_rules.specs.Step.{exits_of, following_of, sampled_of}
-use Rattle.uz_rules.specs.Values.{byte_hull, pair_range, span_of, value_at}
+use Rattle.uz_transfer.specs.declared.fail.Fail.{Fail}
+use Rattle.uz_transfer.specs.declared.fail.Fail.TheVariants as why
+use Rattle.uz_transfer.specs.declared.step.Exit.{Exit}
+use Rattle.uz_transfer.specs.Exits.{outcomes, targets, jump_pcs, numbers_from}
+use Rattle.uz_transfer.specs.Refusals.{fail_of, refuse_if, target_fails}
+use Rattle.uz_transfer.specs.Step.{exits_of, following_of, sampled_of}
+use Rattle.uz_transfer.specs.Values.{byte_hull, pair_range, span_of, value_at}
 use Rattle.uz_rules.specs.declared.next.Next.{Next}
 use Rattle.uz_search.specs.declared.program.Program.{Program}
 use Rattle.uz_search.specs.declared.widening.Widening.{Widening}

@@ -10,7 +10,7 @@ use Rattle.uz_schedule.specs.declared.lines.EventKind.TheVariants.{Sync, Leave}
 use Rattle.uz_schedule.specs.declared.lines.Schedule.{Schedule}
 use Rattle.uz_schedule.specs.declared.states.Instance.{Instance}
 use Rattle.uz_schedule.specs.declared.states.Rest.{Rest}
-use Rattle.uz_rules.specs.Step.{IsReadAt}
+use Rattle.uz_transfer.specs.Step.{IsReadAt}
 use Rattle.uz_rules.specs.declared.next.Next.{Next}
 use Rattle.uz_rules.specs.EdgeRule.{position_of}
 use Rattle.uz_rules.specs.Local.{local_fail}

@@ -5,9 +5,9 @@ use Rattle.uz_schedule.specs.declared.kinds.Kind.TheVariants.{Main}
 use Rattle.uz_schedule.specs.declared.lines.EventKind.{EventKind}
 use Rattle.uz_schedule.specs.declared.lines.EventKind.TheVariants.{Sync}
 use Rattle.uz_schedule.specs.declared.states.Instance.{Instance}
-use Rattle.uz_rules.specs.declared.fail.Fail.{Fail}
-use Rattle.uz_rules.specs.declared.fail.Fail.TheVariants.{Edge, Restore}
-use Rattle.uz_rules.specs.Step.{IsReadAt}
+use Rattle.uz_transfer.specs.declared.fail.Fail.{Fail}
+use Rattle.uz_transfer.specs.declared.fail.Fail.TheVariants.{Edge, Restore}
+use Rattle.uz_transfer.specs.Step.{IsReadAt}
 use Rattle.uz_rules.specs.declared.next.Next.{Next}
 use Rattle.uz_rules.specs.Inside.{restored}
 use Rattle.uz_rules.specs.Local.{row_emits_in_main}

@@ -4,8 +4,8 @@ ghost use Rattle.std.specs.Prelude.{◌≡◌, ◌≢◌, ◌<◌, ◌≤◌, tr
 ghost use Rattle.uz_schedule.specs.Limits.{most_lines};
 ghost use Rattle.uz_schedule.specs.declared.kinds.Kind.TheVariants.{Main};
 ghost use Rattle.uz_schedule.specs.declared.states.Instance.{Instance};
-ghost use Rattle.uz_rules.specs.declared.fail.Fail.{Fail};
-ghost use Rattle.uz_rules.specs.Values.{pair_range};
+ghost use Rattle.uz_transfer.specs.declared.fail.Fail.{Fail};
+ghost use Rattle.uz_transfer.specs.Values.{pair_range};
 ghost use Rattle.uz_search.specs.Fitting.{ProgramFits, Stands};
 ghost use Rattle.uz_search.specs.Following.{Among, frame_of, lines_of, most_clocks as most_of, place_on as place_of};
 ghost use Rattle.uz_search.specs.Stuck.{IsStuck};
@@ -19,7 +19,8 @@ use crate::showing::first_to_show;
 use crate::stuck::stuck;
 use std::alloc::AllocError;
 use uz_hex::Image;
-use uz_rules::{Fail, Next};
+use uz_rules::Next;
+use uz_transfer::Fail;
 use uz_schedule::{Instance, Kind};
 
 /// Why an instance ends the search.

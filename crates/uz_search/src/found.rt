@@ -6,7 +6,7 @@ use crate::returns::Return;
 use crate::ways::Ways;
 use indexmap::IndexSet;
 use std::alloc::AllocError;
-use uz_rules::Fail;
+use uz_transfer::Fail;
 use uz_schedule::{Instance, Sequence};
 
 /// Why no certificate is found.

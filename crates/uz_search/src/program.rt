@@ -16,7 +16,8 @@ use crate::widened::widen;
 use std::alloc::{AllocError, Global};
 use std::collections::BTreeMap;
 use uz_hex::Image;
-use uz_rules::{Fail, Next, copied, put_after};
+use uz_rules::{Next, put_after};
+use uz_transfer::{Fail, copied};
 use uz_schedule::{Head, Instance, Schedule, Sequence, handler_entry};
 
 /// What a search is told of a program, beside its image.

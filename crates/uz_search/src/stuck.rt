@@ -4,8 +4,8 @@ ghost use Rattle.std.specs.Prelude.{◌≡◌, ◌<◌, ◌≤◌, ◌+◌, ◌�
 ghost use Rattle.avr_table.specs.declared.Instr.{Instr};
 ghost use Rattle.uz_schedule.specs.declared.kinds.Kind.TheVariants.{Main};
 ghost use Rattle.uz_schedule.specs.declared.lines.EventKind.{EventKind};
-ghost use Rattle.uz_rules.specs.declared.fail.Fail.{Fail};
-ghost use Rattle.uz_rules.specs.Step.{IsReadAt};
+ghost use Rattle.uz_transfer.specs.declared.fail.Fail.{Fail};
+ghost use Rattle.uz_transfer.specs.Step.{IsReadAt};
 ghost use Rattle.uz_rules.specs.Local.{row_emits_in_main};
 ghost use Rattle.uz_search.specs.Following.{Among, clock_on as clock_of, shown_at};
 ghost use Rattle.uz_search.specs.Stuck.{EmitsInMain, IsUnrestored, IsUnsteady, PassesUnsteady, StuckWith};
@@ -19,7 +19,8 @@ use avr_decode::{at_most_one, decode};
 use avr_table::Instr;
 use uz_core::effect;
 use uz_hex::Image;
-use uz_rules::{Fail, Next, main_emits, restored, word_after};
+use uz_rules::{Next, restored};
+use uz_transfer::{Fail, main_emits, word_after};
 use uz_schedule::{EventKind, Instance, Kind};
 
 /// Whether an instance is of main.

@@ -7,7 +7,7 @@ ghost use Rattle.uz_search.specs.Following.{Flash};
 ghost use Rattle.uz_search.specs.Trails.{IsTrail, AreParents, ComeEarlier};
 
 use std::alloc::{AllocError, Global};
-use uz_rules::copied;
+use uz_transfer::copied;
 use uz_schedule::{Instance, Sequence};
 
 /// The node at a place.

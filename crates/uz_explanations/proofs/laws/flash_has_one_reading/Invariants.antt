@@ -1,6 +1,6 @@
 use Rattle.std.specs.Prelude.{ℕ, ◌<◌}
 use Rattle.uz_explanations.specs.Readings.{Reading}
-use Rattle.uz_rules.specs.Step.{IsReadAt}
+use Rattle.uz_transfer.specs.Step.{IsReadAt}
 use Rattle.uz_explanations.proofs.laws.flash_has_one_reading.Given as goal
 
 -- the words so far are read

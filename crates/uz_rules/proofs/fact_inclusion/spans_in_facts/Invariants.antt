@@ -1,7 +1,7 @@
 use Rattle.std.proofs.Common.{◌≡◌, map, true}
 use Rattle.uz_schedule.specs.Instances.{cell_span}
-use Rattle.uz_rules.specs.Values.{span_at}
-use Rattle.uz_rules.specs.Refusals.{range_inside}
+use Rattle.uz_transfer.specs.Values.{span_at}
+use Rattle.uz_transfer.specs.Refusals.{range_inside}
 use Rattle.uz_rules.specs.Inside.{all_below}
 use Rattle.uz_rules.proofs.fact_inclusion.spans_in_facts.Given as goal
 

@@ -1,5 +1,5 @@
 use Rattle.std.proofs.Common.{◌≡◌}
-use Rattle.uz_rules.specs.Values.{flag_at}
+use Rattle.uz_transfer.specs.Values.{flag_at}
 use Rattle.uz_rules.specs.Inside.{all_below, flag_inside}
 use Rattle.uz_rules.proofs.inclusion.flags_inside.Given as goal
 

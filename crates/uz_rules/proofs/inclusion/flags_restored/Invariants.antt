@@ -1,6 +1,6 @@
 use Rattle.std.proofs.Common.{◌≡◌}
-use Rattle.uz_rules.specs.Values.{flag_at}
-use Rattle.uz_rules.specs.Memory.{is_old}
+use Rattle.uz_transfer.specs.Values.{flag_at}
+use Rattle.uz_transfer.specs.Memory.{is_old}
 use Rattle.uz_rules.specs.Inside.{all_below}
 use Rattle.uz_rules.proofs.inclusion.flags_restored.Given as goal
 

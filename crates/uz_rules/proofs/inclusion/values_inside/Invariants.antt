@@ -1,5 +1,5 @@
 use Rattle.std.proofs.Common.{◌≡◌}
-use Rattle.uz_rules.specs.Values.{value_at}
+use Rattle.uz_transfer.specs.Values.{value_at}
 use Rattle.uz_rules.specs.Inside.{all_below, value_inside}
 use Rattle.uz_rules.proofs.inclusion.values_inside.Given as goal
 

@@ -1,6 +1,6 @@
 use Rattle.std.proofs.Common.{◌≡◌, drop}
 use Rattle.uz_schedule.specs.Lines.{order_of}
-use Rattle.uz_rules.specs.Step.{at_exit}
+use Rattle.uz_transfer.specs.Step.{at_exit}
 use Rattle.uz_rules.specs.EdgeRule.{each_exit}
 use Rattle.uz_rules.specs.Successors.{lies_in_any}
 use Rattle.uz_rules.proofs.local_rule.lie_in_successors.Given as goal

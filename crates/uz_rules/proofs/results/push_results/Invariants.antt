@@ -1,6 +1,6 @@
 use Rattle.std.proofs.Common.{◌≡◌, map, take}
 use Rattle.uz_schedule.specs.Lines.{order_of}
-use Rattle.uz_rules.specs.Step.{at_exit}
+use Rattle.uz_transfer.specs.Step.{at_exit}
 use Rattle.uz_rules.proofs.results.push_results.Given as goal
 
 -- the results so far

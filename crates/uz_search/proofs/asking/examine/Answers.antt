@@ -1,7 +1,7 @@
 use Rattle.std.proofs.Common.{◌≡◌, ◌<◌, ◌+◌, ℕ, List, Option, Some, Result, Ok, Err, inl, inr, sym, subst, slice_get, arith}
 use Rattle.std.specs.Prelude.{⊤}
 use Rattle.std.proofs.lemmas.Option.{slice_get_within}
-use Rattle.uz_rules.specs.declared.fail.Fail.{Fail}
+use Rattle.uz_transfer.specs.declared.fail.Fail.{Fail}
 use Rattle.uz_search.specs.declared.asking.Stop.{Stop}
 use Rattle.uz_search.specs.declared.asking.Stop.TheVariants.{Split, Stuck}
 use Rattle.uz_schedule.specs.declared.states.Instance.{Instance}

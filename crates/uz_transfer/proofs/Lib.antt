@@ -1,0 +1,5 @@
+pub mod Sevens
+pub mod StepsOf
+pub mod NumberLaws
+pub mod Refused
+pub mod StoredPointer

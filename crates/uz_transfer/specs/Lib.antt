@@ -1,0 +1,11 @@
+pub mod Values
+pub mod Kinds
+pub mod Arithmetic
+pub mod Memory
+pub mod Timer
+pub mod Transfer
+pub mod Exits
+pub mod Emission
+pub mod Refusals
+pub mod InTime
+pub mod Step
