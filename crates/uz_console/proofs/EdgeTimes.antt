@@ -24,7 +24,7 @@ timed_later from to later [] h t = omega arith
 timed_later from to later (e ∷ edges) h t = (t.0, timed_later e.clock to later edges h t.1)
 
 -- and then those of a later time
-timed_append : (from mid to : ℕ) (edges more : List Edge) → AreTimed from mid edges → AreTimed mid to more → AreTimed from to (edges ++ more)
+pub timed_append : (from mid to : ℕ) (edges more : List Edge) → AreTimed from mid edges → AreTimed mid to more → AreTimed from to (edges ++ more)
 timed_append from mid to [] more h g = timed_earlier mid from to more h g
 timed_append from mid to (e ∷ edges) more h g = (h.0, timed_append e.clock mid to edges more h.1 g)
 
@@ -41,7 +41,7 @@ timed_part p from to (e ∷ edges) t = chosen (p e) (timed_part p e.clock to edg
     chosen true h = (t.0, h)
     chosen false h = timed_earlier e.clock from to (filter p edges) t.0 h
 
-turn_timed : (s next : State PadHistory) (edges : List Edge) → Turn history_wiring s edges next → AreTimed s.clock next.clock edges
+pub turn_timed : (s next : State PadHistory) (edges : List Edge) → Turn history_wiring s edges next → AreTimed s.clock next.clock edges
 turn_timed s next edges (inl enter) =
     subst (λ x. AreTimed s.clock next.clock x) (sym enter.emits)
     (subst (λ (n : State PadHistory). AreTimed s.clock n.clock (entry_edges history_wiring s)) (sym enter.goes_to)

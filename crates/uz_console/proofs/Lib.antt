@@ -1,3 +1,4 @@
+pub mod AdvanceLemmas
 pub mod ApproachLemmas
 pub mod EdgeTimes
 pub mod EntryLaws

@@ -1,3 +1,4 @@
+pub mod Advances
 pub mod Approaches
 pub mod Consoles
 pub mod Entering

@@ -1,6 +1,7 @@
 //! The console: its turns, and runs of so many clocks.
 #![tactic(auto)]
 
+mod advancing;
 mod approach;
 mod console;
 mod copying;
