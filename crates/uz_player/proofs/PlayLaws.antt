@@ -1,23 +1,20 @@
 -- A play, edge by edge and turn by turn.
 use Rattle.std.proofs.Common.{◌≡◌, ℕ, zero, suc, ◌+◌, ◌-◌, ◌*◌, ◌<◌, ◌≤◌, List, [], ◌∷◌, ◌++◌, length, refl, sym, ◌∙◌, ap, subst, append_assoc}
-use Rattle.std.proofs.Common.{append-nil, arith, inl, inr}
-use Rattle.std.specs.Prelude.{reverse}
+use Rattle.std.proofs.Common.{append-nil, arith}
+use Rattle.std.specs.Prelude.{reverse, Option, None, Some}
 use Rattle.std.proofs.lemmas.List.{reverse-append}
 use Rattle.uz_core.specs.declared.machine.Edge.{Edge}
-use Rattle.uz_core.specs.declared.machine.EdgeKind.{EdgeKind}
 use Rattle.uz_core.specs.PadLine.{PadHistory, latches}
-use Rattle.uz_core.specs.Space.{history_wiring}
-use Rattle.uz_core.specs.Turn.{State, Turn, edges_at, entry_edges, instruction_edges}
-use Rattle.uz_core.specs.Run.{HasNoTurn, MachineTurn, Run}
+use Rattle.uz_core.specs.Turn.{State}
+use Rattle.uz_core.specs.Run.{MachineTurn, Run, TurnBefore}
 use Rattle.uz_pads.specs.declared.pads.Pad.{Pad}
-use Rattle.uz_pads.specs.declared.pads.Pads.{Pads}
 use Rattle.uz_console.specs.Holding.{holding_state}
 use Rattle.uz_core.specs.declared.step.Why.{Why}
 use Rattle.uz_console.specs.declared.console.Console.{Console}
+use Rattle.uz_console.specs.Advances.{AdvanceTakesTime, Advances, Reaches}
 use Rattle.uz_console.specs.Consoles as console
 use Rattle.uz_console.specs.Consoles.{StateStandsFor, state_of}
 use Rattle.uz_console.specs.Runs.{AreTimed}
-use Rattle.uz_console.specs.Turns.{Halts}
 use Rattle.uz_console.proofs.EdgeTimes.{timed_earlier}
 use Rattle.uz_scan.specs.Pictures.{last_row, record_of, records, shown_by}
 use Rattle.uz_scan.specs.declared.scanner.Scan.{Scan}
@@ -25,7 +22,7 @@ use Rattle.uz_scan.specs.declared.scanner.Scanner.{Scanner}
 use Rattle.uz_scan.specs.Scanning as scanning
 use Rattle.uz_player.specs.declared.play.Play.{Play}
 use Rattle.uz_player.specs.declared.shown.Shown.{Shown}
-use Rattle.uz_player.specs.Frames.{Goes, GoesOn, HasScanned, IsAt, ScansEdge, bytes_of, clock_of, left_of}
+use Rattle.uz_player.specs.Frames.{Goes, GoesOn, HasScanned, HasTurned, IsAt, ScansEdge, bytes_of, clock_of, left_of}
 
 -- Runs one after another
 
@@ -111,76 +108,52 @@ scans_one old new edge shown same left scans = λ s seen at.
       records = h.records;
     }
 
--- The edges of a turn lie between the clocks of its states
+-- Turns up to one with edges
 
-at_one_clock : (from clock to : ℕ) (kinds : List EdgeKind) → from ≤ clock → clock ≤ to → AreTimed from to (edges_at clock kinds)
-at_one_clock from clock to [] h g = omega arith
-at_one_clock from clock to (kind ∷ kinds) h g = (h, at_one_clock clock clock to kinds (omega arith) g)
+any_run : (until n : ℕ) (s last : State PadHistory) (edges : List Edge) → Run (TurnBefore until) n s edges last → Run MachineTurn n s edges last
+any_run until zero s last edges run = run
+any_run until (suc n) s last edges (first, mid, rest, turn, run, cut) = (first, mid, rest, turn.1, any_run until n mid last rest run, cut)
 
-turn_timed : (s next : State PadHistory) (edges : List Edge) → Turn history_wiring s edges next → AreTimed s.clock next.clock edges
-turn_timed s next edges (inl enter) =
-    subst (λ x. AreTimed s.clock next.clock x) (sym enter.emits)
-    (subst (λ (n : State PadHistory). AreTimed s.clock n.clock (entry_edges history_wiring s)) (sym enter.goes_to)
-    (omega arith, at_one_clock s.clock (s.clock + s.response) (s.clock + s.response) _ (omega arith) (omega arith)))
-turn_timed s next edges (inr run) =
-    subst (λ x. AreTimed s.clock next.clock x) (sym run.emits)
-    (subst (λ (n : State PadHistory). AreTimed s.clock n.clock (instruction_edges history_wiring run.row s)) (sym run.goes_to)
-    (at_one_clock s.clock _ _ _ (omega arith) (omega arith)))
-
--- a turn is made where no edge was left
-pub turns_once : (old new : Play) (edges : List Edge) → new.scanner ≡ old.scanner → left_of new ≡ edges → left_of old ≡ []
-    → ((s : State PadHistory) → console.StandsFor old.console s → (next : State PadHistory) × Turn history_wiring s edges next
-    × console.StandsFor new.console next) → Goes old new []
-turns_once old new edges same left none turn = λ s seen at.
-    let t = turn s at.stands in
+-- they are made where no edge was left
+pub goes_by_turns : (until : ℕ) (old new : Play) (edges : List Edge) → new.scanner ≡ old.scanner → left_of new ≡ edges → left_of old ≡ []
+    → ((s : State PadHistory) → console.StandsFor old.console s → Reaches until s edges new.console) → Goes old new []
+goes_by_turns until old new edges same left none reaches = λ s seen at.
+    let there : Reaches until s edges new.console = reaches s at.stands in
     let before : scanning.clock_of old.scanner ≤ clock_of old = subst (λ es. AreTimed (scanning.clock_of old.scanner) (clock_of old) es) none
     at.timed in
     let from : scanning.clock_of old.scanner ≤ s.clock = subst (λ n. scanning.clock_of old.scanner ≤ n) (sym (at.stands).clock) before in
-    let timed = timed_earlier s.clock (scanning.clock_of old.scanner) (t.0).clock edges from (turn_timed s t.0 edges t.1) in
+    let timed = timed_earlier s.clock (scanning.clock_of old.scanner) (there.last).clock edges from there.timed in
     record {
-      turns = 1;
+      turns = there.turns;
       edges = edges;
-      last = t.0;
-      run = (edges, t.0, [], t.1, (refl, refl), sym (append-nil edges));
+      last = there.last;
+      run = any_run until there.turns s there.last edges there.run;
       scanned = [];
       kept = ap (λ es. es ++ edges) none ∙ sym left;
       is_at = record {
-        stands = t.2;
+        stands = there.stands;
         picture = subst (λ scanner. scanning.StandsFor scanner seen) (sym same) at.picture;
         timed = subst (λ es. AreTimed (scanning.clock_of new.scanner) (clock_of new) es) (sym left)
             (subst (λ scanner. AreTimed (scanning.clock_of scanner) (clock_of new) edges) (sym same)
-            (subst (λ n. AreTimed (scanning.clock_of old.scanner) n edges) (t.2).clock timed));
+            (subst (λ n. AreTimed (scanning.clock_of old.scanner) n edges) (there.stands).clock timed));
       };
       records = sym (append-nil (records seen));
     }
 
--- a console that stays is at the same states
-at_again : (old new : Play) → state_of new.console ≡ state_of old.console → new.scanner ≡ old.scanner → left_of new ≡ left_of old →
-    (s : State PadHistory) (seen : List Edge) → IsAt old s seen → IsAt new s seen
-at_again old new same scanner left s seen at = record {
-  stands = subst (λ (t : State Pads). StateStandsFor t s) (sym same) at.stands;
-  picture = subst (λ scanner. scanning.StandsFor scanner seen) (sym scanner) at.picture;
-  timed = subst (λ es. AreTimed (scanning.clock_of new.scanner) (clock_of new) es) (sym left)
-      (subst (λ scanner. AreTimed (scanning.clock_of scanner) (clock_of new) (left_of old)) (sym scanner)
-      (subst (λ (t : State Pads). AreTimed (scanning.clock_of old.scanner) t.clock (left_of old)) (sym same) at.timed));
-}
-
-pub stays_there : (old new : Play) → state_of new.console ≡ state_of old.console → new.scanner ≡ old.scanner → left_of new ≡ left_of old →
-    Goes old new []
-stays_there old new same scanner left = λ s seen at. record {
-  turns = 0;
-  edges = [];
-  last = s;
-  run = (refl, refl);
-  scanned = [];
-  kept = append-nil (left_of old) ∙ sym left;
-  is_at = at_again old new same scanner left s seen at;
-  records = sym (append-nil (records seen));
-}
-
-pub has_no_turn : (old new : Play) (why : Why) → state_of new.console ≡ state_of old.console → ((s : State PadHistory)
-    → console.StandsFor old.console s → Halts s why) → (s : State PadHistory) (seen : List Edge) → IsAt new s seen → HasNoTurn s
-has_no_turn old new why same halts s seen at = (halts s (subst (λ (t : State Pads). StateStandsFor t s) same at.stands)).no_turn
+pub has_turned : (until : ℕ) (old new : Play) (edges : List Edge) (stop : Option Why) → new.scanner ≡ old.scanner → left_of new ≡ edges
+    → left_of old ≡ [] → length edges ≤ 4 → Advances until old.console new.console edges stop
+    → AdvanceTakesTime until old.console new.console stop → HasTurned until old new stop
+has_turned until old new edges None same left none few goes time = (
+  goes_by_turns until old new edges same left none goes,
+  time,
+  subst (λ (es : List Edge). length es ≤ 4) (sym left) few,
+)
+has_turned until old new edges (Some why) same left none few goes time = (
+  goes_by_turns until old new [] same (left ∙ goes.0) none goes.1,
+  time.1,
+  left ∙ goes.0,
+  λ s seen at. (goes.2 s at.stands).no_turn,
+)
 
 -- Buttons that are held
 

@@ -91,11 +91,11 @@ pub record ScansNext (old new : Play) (shown : Shown) : Type 0 where
   pub clock : clock_of new ≡ clock_of old
   pub fewer : length (left_of new) < length (left_of old)
 
--- None: a turn is made where no edge was left. Some: there is none
-abbrev pub HasTurned : Play → Play → Option Why → Type 0
-HasTurned old new None = (left_of old ≡ [] → Goes old new []) × (clock_of old < clock_of new) × (length (left_of new) ≤ 4)
-HasTurned old new (Some why) =
-    Goes old new [] × (clock_of new ≡ clock_of old) × (left_of new ≡ left_of old) ×
+-- Where no edge was left: turns are made. Some: and then there is none, before a clock
+abbrev pub HasTurned : ℕ → Play → Play → Option Why → Type 0
+HasTurned until old new None = Goes old new [] × (clock_of old < clock_of new) × (length (left_of new) ≤ 4)
+HasTurned until old new (Some why) =
+    Goes old new [] × (clock_of new < until) × (left_of new ≡ []) ×
     ((s : State PadHistory) (seen : List Edge) → IsAt new s seen → HasNoTurn s)
 
 -- Row, End: the next record. Quiet, Stopped: there is none up to a clock, and every edge is scanned; each turn that begins before it is

@@ -10,7 +10,7 @@ ghost use Rattle.uz_core.specs.Turn.{State, history_at_reset, state_at_reset};
 use crate::shown::{Shown, scan};
 use arrayvec::ArrayVec;
 use std::alloc::{AllocError, Global};
-use uz_console::{Console, Response, Turn};
+use uz_console::{Console, Response};
 use uz_core::{Edge, Why};
 use uz_hex::Image;
 use uz_pads::Pad;
@@ -31,7 +31,7 @@ pub struct Play {
 }
 
 impl Play {
-    ghost use Rattle.uz_player.specs.Frames.{HasTurned, Holds, IsAt, IsNext, ScansNext, clock_of};
+    ghost use Rattle.uz_player.specs.Frames.{HasTurned, Holds, IsAt, IsNext, ScansNext, clock_of, left_of};
 
     /// The play at reset, with no button held: the console at reset, and a picture of no edge.
     pub fn reset(alloc: Global, image: Image, irq: Response) -> Result<Play, AllocError>
@@ -89,20 +89,18 @@ impl Play {
         scan(&mut self.scanner, edge)
     }
 
-    /// Where no edge is left: makes a turn, or says why there is none.
-    fn make_turn(&mut self) -> Option<Why>
-        requires { clock_of self.old < 2 ^ 62 }
-        ensures { HasTurned self.old self.new result }
+    /// Where no edge is left: makes turns up to one with edges, and none that begins at a clock or after it; or says why there is no
+    /// next one.
+    fn make_turns(&mut self, until: u64) -> Option<Why>
+        requires until { until ≤ 2 ^ 62 }
+        requires before { clock_of self.old < until }
+        requires none { left_of self.old ≡ [] }
+        ensures { HasTurned until self.old self.new result }
     {
-        match self.console.turn() {
-            Turn::Took { edges } => {
-                let _few = edges.len();
-                self.edges = edges;
-                self.next = 0;
-                None
-            }
-            Turn::Stopped(why) => Some(why),
-        }
+        let stop = self.console.advance(until, &mut self.edges);
+        let _few = self.edges.len();
+        self.next = 0;
+        stop
     }
 
     /// Goes on to the next record of the picture, and makes no turn that begins at a clock, or after it.
@@ -122,7 +120,7 @@ impl Play {
                 if self.console.clock() >= until {
                     return Shown::Quiet;
                 }
-                match self.make_turn() {
+                match self.make_turns(until) {
                     None => {}
                     Some(_) => return Shown::Stopped,
                 }

@@ -1,4 +1,4 @@
-use Rattle.std.proofs.Common.{◌≤◌, [], length, arith, ◌∙◌}
+use Rattle.std.proofs.Common.{◌≤◌, [], length, arith}
 use Rattle.std.proofs.lemmas.List.{drop_all}
 use Rattle.uz_player.specs.Frames.{clock_of, left_of}
 use Rattle.uz_player.proofs.PlayLaws.{goes_again, nearer_by_edge, nearer_by_turn, stays}
@@ -60,31 +60,32 @@ turns-preserved-in-Stopped c =
       nearer = omega (arith, nearer, c.turns.invariant.nearer);
     }
 
+pub make_turns-requires-clause-none : goal.make_turns-requires-clause-none
+make_turns-requires-clause-none c =
+    let here = c.turns.self in
+    let past : length here.edges.items ≤ here.next = omega arith in
+    drop_all here.next here.edges.items past
+
 pub returns-in-Some : goal.returns-in-Some
-returns-in-Some c =
-    let old = c.turns.self in
-    let past : length old.edges.items ≤ old.next = omega arith in
-    let none = drop_all old.next old.edges.items past in (
-      goes_again c.args.self.now old c.make_turn.new.self [] [] c.turns.invariant.goes c.in-Some.ensures.0,
-      c.in-Some.ensures.2 ∙ none,
-      omega (arith, c.in-Some.ensures.1),
-      c.in-Some.ensures.3,
-    )
+returns-in-Some c = (
+  goes_again c.args.self.now c.turns.self c.make_turns.new.self [] [] c.turns.invariant.goes c.in-Some.ensures.0,
+  c.in-Some.ensures.2,
+  c.in-Some.ensures.1,
+  c.in-Some.ensures.3,
+)
 
 pub turns-smaller : goal.turns-smaller
 turns-smaller c =
-    nearer_by_turn c.args.until (clock_of c.turns.self) (clock_of c.make_turn.new.self) (length (left_of c.turns.self))
-    (length (left_of c.make_turn.new.self)) c.in-None.ensures.1 (omega arith) c.in-None.ensures.2
+    nearer_by_turn c.args.until (clock_of c.turns.self) (clock_of c.make_turns.new.self) (length (left_of c.turns.self))
+    (length (left_of c.make_turns.new.self)) c.in-None.ensures.1 (omega arith) c.in-None.ensures.2
 
 pub turns-preserved : goal.turns-preserved
 turns-preserved c =
     let old = c.turns.self in
-    let new = c.make_turn.new.self in
-    let past : length old.edges.items ≤ old.next = omega arith in
-    let none = drop_all old.next old.edges.items past in
+    let new = c.make_turns.new.self in
     let nearer = nearer_by_turn c.args.until (clock_of old) (clock_of new) (length (left_of old)) (length (left_of new))
     c.in-None.ensures.1 (omega arith) c.in-None.ensures.2 in
     record {
-      goes = goes_again c.args.self.now old new [] [] c.turns.invariant.goes (c.in-None.ensures.0 none);
+      goes = goes_again c.args.self.now old new [] [] c.turns.invariant.goes c.in-None.ensures.0;
       nearer = omega (arith, nearer, c.turns.invariant.nearer);
     }
