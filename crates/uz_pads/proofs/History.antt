@@ -72,24 +72,24 @@ after_by fall rise value p =
     }
 
 record Counts (p : Pads) (list : List Pad) (n : ℕ) : Type 0 where
-  items : p.list.items ≡ list
+  items : p.list ≡ list
   next : p.next ≡ min n (length list)
   current : p.current ≡ latched_pad n list
 
-counts_after : (fall : Bool) (rise value n : ℕ) (p : Pads) → Counts p p.list.items n → Counts (after_by fall rise value p) p.list.items
+counts_after : (fall : Bool) (rise value n : ℕ) (p : Pads) → Counts p p.list n → Counts (after_by fall rise value p) p.list
     ((if fall then 1 else 0) + n)
 counts_after true rise value n p h =
-    let current = Some (slice_index_or p.list.items p.next no_pad) in
-    let b = nat_lt p.next (length p.list.items) in
+    let current = Some (slice_index_or p.list p.next no_pad) in
+    let b = nat_lt p.next (length p.list) in
     record {
-      items = ap (λ v. v.items) (loaded_list b p current);
-      next = loaded_next b p current ∙ next_more n (length p.list.items) p.next h.next;
-      current = loaded_current b p current ∙ current_more n p.next p.list.items h.next;
+      items = loaded_list b p current;
+      next = loaded_next b p current ∙ next_more n (length p.list) p.next h.next;
+      current = loaded_current b p current ∙ current_more n p.next p.list h.next;
     }
 counts_after false rise value n p h = let same : 0 + n ≡ n = omega arith in record {
   items = refl;
-  next = h.next ∙ ap (λ x. min x (length p.list.items)) (sym same);
-  current = h.current ∙ ap (λ x. latched_pad x p.list.items) (sym same);
+  next = h.next ∙ ap (λ x. min x (length p.list)) (sym same);
+  current = h.current ∙ ap (λ x. latched_pad x p.list) (sym same);
 }
 
 level_after : (fall : Bool) (rise value : ℕ) (p : Pads) → (after_by fall rise value p).level ≡ value
@@ -124,15 +124,15 @@ after_value p pairs v value older h =
     let q : Pads = after_by fall rise value p in
     let counted : latches (value ∷ v ∷ older) ≡ (if fall then 1 else 0) + latches (v ∷ older) =
     sum_by-cons (λ c. if is_fall 2 c then 1 else 0) (v, value) (changes_of (v ∷ older)) in
-    let counts : Counts q p.list.items ((if fall then 1 else 0) + latches (v ∷ older)) = counts_after fall rise value (latches (v ∷ older))
+    let counts : Counts q p.list ((if fall then 1 else 0) + latches (v ∷ older)) = counts_after fall rise value (latches (v ∷ older))
     p (record { items = refl; next = h.next; current = h.current }) in
     record {
       pairs = h.pairs ∙ ap pairs_of (sym counts.items);
       begun = tt;
       level = level_after fall rise value p;
-      next = counts.next ∙ (ap (λ n. min n (length p.list.items)) (sym counted)
+      next = counts.next ∙ (ap (λ n. min n (length p.list)) (sym counted)
           ∙ ap (λ list. min (latches (value ∷ v ∷ older)) (length list)) (sym counts.items));
-      current = counts.current ∙ (ap (λ n. latched_pad n p.list.items) (sym counted)
+      current = counts.current ∙ (ap (λ n. latched_pad n p.list) (sym counted)
           ∙ ap (λ list. latched_pad (latches (value ∷ v ∷ older)) list) (sym counts.items));
       moves = moves_of_after fall rise value p ∙ moves_more fall (v, value) (changes_since_latch (changes_of (v ∷ older))) p.moves h.moves;
     }
@@ -209,8 +209,8 @@ line_of_list list n m =
 pub lines_stand : (p : Pads) (history : PadHistory) → StandsFor p history → pads_lines p ≡ pad_lines history
 lines_stand p history h =
     ap (λ current. data_lines_of current p.moves) h.current ∙
-    (ap (λ k. data_lines_of (latched_pad (latches history.levels) p.list.items) k) h.moves ∙
-    (line_of_list p.list.items (latches history.levels) (moves history.levels) ∙
+    (ap (λ k. data_lines_of (latched_pad (latches history.levels) p.list) k) h.moves ∙
+    (line_of_list p.list (latches history.levels) (moves history.levels) ∙
     ap (λ pairs. pad_lines (record { pairs = pairs; levels = history.levels })) (sym h.pairs)))
 
 -- A state of pads, with another list of the same pairs

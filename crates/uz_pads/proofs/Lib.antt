@@ -4,4 +4,5 @@ pub mod ItemLaws
 pub mod ItemLemmas
 pub mod LineCuts
 pub mod LineLemmas
+pub mod PadLists
 pub mod ReadingLaws

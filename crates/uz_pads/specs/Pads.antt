@@ -34,7 +34,7 @@ abbrev pub pad_state_of : Pads → PadState
 pad_state_of p = record { level = p.level; next = p.next; current = p.current; moves = p.moves }
 
 abbrev pub list_of : Pads → List Pad
-list_of p = p.list.items
+list_of p = p.list
 
 -- the pads with the same list in another state
 abbrev pub with_pad_state : PadState → Pads → Pads
@@ -58,7 +58,7 @@ StandsFor p history = StateStandsFor (list_of p) (pad_state_of p) history
 
 -- the list up to the pair that was latched last, and then a pair so many times
 abbrev pub held_list : Pad → ℕ → Pads → List Pad
-held_list pad times p = take p.next p.list.items ++ replicate times pad
+held_list pad times p = take p.next p.list ++ replicate times pad
 
 -- The next latches, so many of them, find this pair, and those after them none. What was latched stays
 abbrev pub holding : Pad → ℕ → PadHistory → PadHistory
@@ -70,15 +70,15 @@ times_held result times = if is_ok result then times else 0
 
 -- so many pairs of the list aren't latched yet
 abbrev pub pads_left : Pads → ℕ
-pads_left p = length p.list.items - p.next
+pads_left p = length p.list - p.next
 
 -- The pads by themselves
 
 -- a latch
 abbrev pub pads_loaded : Pads → Pads
 pads_loaded p =
-    if nat_lt p.next (length p.list.items)
-    then record p { current = Some (slice_index_or p.list.items p.next no_pad); next = p.next + 1 }
+    if nat_lt p.next (length p.list)
+    then record p { current = Some (slice_index_or p.list p.next no_pad); next = p.next + 1 }
     else record p { current = None }
 
 -- PORTA takes a value

@@ -4,6 +4,7 @@
 mod errors;
 mod laws;
 mod lines;
+mod pad_list;
 mod pads;
 mod reading;
 

@@ -5,6 +5,7 @@ ghost use Rattle.uz_core.specs.Arithmetic.{bit_value, bit_is_set};
 ghost use Rattle.uz_core.specs.PadLine.{PadHistory, pad_lines, with_level, is_fall, is_rise, latches};
 ghost use Rattle.uz_core.specs.Turn.{history_at_reset};
 
+use crate::pad_list::PadList;
 use std::alloc::{AllocError, Global};
 
 /// The two players' words of one latch. Bits 0 to 11 are B, Y, Select, Start, Up, Down, Left, Right, A, X, L and R
@@ -31,7 +32,7 @@ pub struct PadState {
 /// Two game pads on PORTA, answering from a list of pairs, one pair a latch.
 #[derive(Drop)]
 pub struct Pads {
-    list: Vec<Pad>,
+    list: PadList,
     /// PORTA's value.
     level: u8,
     /// The place of the pair that the next latch loads.
@@ -83,7 +84,7 @@ impl Pads {
         ensures { StandsFor result (history_at_reset (pairs_of list.items)) }
     {
         Pads {
-            list,
+            list: PadList::new(list),
             level: 0,
             next: 0,
             current: None,
@@ -97,7 +98,7 @@ impl Pads {
         ensures state { IfOk result (λ pads. pad_state_of pads ≡ pad_state_of self.now) }
     {
         Ok(Pads {
-            list: Vec::from_slice(alloc, self.list.as_slice())?,
+            list: self.list.copy(alloc)?,
             level: self.level,
             next: self.next,
             current: self.current,
@@ -136,23 +137,22 @@ impl Pads {
     }
 
     /// Holds buttons: the next latches, so many of them, find this pair, and those after them none. What was latched
-    /// stays. Where memory runs out no latch finds a pair.
-    pub fn hold(&mut self, alloc: Global, pad: Pad, times: usize) -> Result<(), AllocError>
+    /// stays. Where memory runs out no latch finds a pair. The memory is the list's own, and only pairs that were held before and
+    /// latched take some.
+    pub fn hold(&mut self, _alloc: Global, pad: Pad, times: usize) -> Result<(), AllocError>
         ensures list { list_of self.new ≡ held_list pad (times_held result times) self.old }
         ensures state { pad_state_of self.new ≡ pad_state_of self.old }
         ensures stands { (history : PadHistory) → StandsFor self.old history → latches history.levels ≤ length history.pairs
             → StandsFor self.new (holding pad (times_held result times) history) }
     {
-        self.hold_in_list(alloc, pad, times)
+        self.hold_in_list(pad, times)
     }
 
-    fn hold_in_list(&mut self, alloc: Global, pad: Pad, times: usize) -> Result<(), AllocError>
+    fn hold_in_list(&mut self, pad: Pad, times: usize) -> Result<(), AllocError>
         ensures list { list_of self.new ≡ held_list pad (times_held result times) self.old }
         ensures state { pad_state_of self.new ≡ pad_state_of self.old }
     {
-        self.list.truncate(self.next);
-        let copies = Vec::from_elem(alloc, pad, times)?;
-        self.list.extend_from_slice(copies.as_slice())
+        self.list.hold(self.next, pad, times)
     }
 
     /// So many pairs of the list aren't latched yet. Where there is one, no latch found the list at its end.
@@ -192,7 +192,7 @@ impl Pads {
         ensures { self.new ≡ pads_loaded self.old }
     {
         if self.next < self.list.len() {
-            self.current = Some(self.list[self.next]);
+            self.current = Some(self.list.at(self.next));
             self.next += 1;
         } else {
             self.current = None;
