@@ -78,7 +78,7 @@ typedef struct {
     uzebox_timer timer;
     uzebox_pads pads;
     uzebox_picture picture;
-    uzebox_edge edges[4];   /* of the last instruction */
+    uzebox_edge edges[4];   /* of the last instruction; none once there is no next one */
     uint8_t edge_count;     /* so many they are, up to 4 */
     uint8_t edges_seen;     /* so many of them the picture has seen */
     uint8_t response;       /* an interrupt is entered in 5 clocks, or in 4 where this isn't 5 */

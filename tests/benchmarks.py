@@ -11,6 +11,11 @@ whose command has one of them.
     benchmarks.py UZEBOX EXAMPLES instructions
 
 counts instructions of x86-64 instead (`valgrind --tool=callgrind`), which no other work on the machine changes.
+
+    benchmarks.py UZEBOX EXAMPLES live
+
+plays 100 frames by the library for C (that of the variable UZEBOX_C, else the one in release/), traces as many clocks, and prints what
+a frame takes of both: the least time of 15 runs, made in turn, and instructions.
 """
 import os
 import re
@@ -22,6 +27,8 @@ import tempfile
 from outcomes import usage
 
 HERE = os.path.dirname(os.path.abspath(__file__))
+EMBED = os.path.join(HERE, '..', 'embed')
+LIBRARY = os.environ.get('UZEBOX_C') or os.path.join(HERE, '..', 'release', 'x86_64-linux', 'libuzebox_c.a')
 LONG = 5.0  # seconds
 LEAST = 16  # MB: more than a process has of this one when it begins
 
@@ -160,12 +167,34 @@ COUNTED = [
 ]
 
 
-def measured(words):
+KERNELS = ['console', 'tiles', 'vertical-sync']
+FRAMES = 100
+
+HOST = r'''
+#include "uzebox.h"
+#include <stdio.h>
+int main(int count, char **words) {
+    static uint8_t hex[1 << 20], records[1 << 18];
+    static uzebox_state state;
+    FILE *file = count == 2 ? fopen(words[1], "rb") : NULL;
+    size_t length = file ? fread(hex, 1, sizeof hex, file) : 0;
+    uzebox_answer answer = uzebox_reset(hex, length, 4, &state);
+    for (int k = 0; k < 100 && answer.status == UZEBOX_FRAME; k++)
+        answer = uzebox_frame(hex, length, &state, 0, 0, 1000000, records, sizeof records);
+    printf("%llu\n", (unsigned long long)state.clock);
+    return (int)answer.status;
+}
+'''
+
+
+def measured(words, printed='out.txt'):
     """Processor time in seconds and memory in MB of one run, and its last line."""
-    with open('out.txt', 'w') as out:
+    with open(printed, 'w') as out:
         process = subprocess.Popen(words, stdout=out, stdin=subprocess.DEVNULL)
         _, status, used = os.wait4(process.pid, 0)
         process.returncode = os.waitstatus_to_exitcode(status)
+    if printed != 'out.txt':
+        return used.ru_utime + used.ru_stime, used.ru_maxrss / 1000, ''
     with open('out.txt', 'rb') as out:
         out.seek(max(0, os.path.getsize('out.txt') - 200))
         lines = out.read().decode().splitlines()
@@ -183,10 +212,26 @@ def row(uzebox, command, runs):
     print('| `%s` | %s | %s | `%s` |' % (command, shown, held, line), flush=True)
 
 
+def instructions_of(words):
+    """In millions."""
+    ran = subprocess.run(['valgrind', '--tool=callgrind', '--callgrind-out-file=/dev/null', *words], stdout=subprocess.DEVNULL,
+                         stderr=subprocess.PIPE, text=True)
+    return int(re.search(r'Collected : (\d+)', ran.stderr)[1]) / 1e6
+
+
 def counted(uzebox, command):
-    ran = subprocess.run(['valgrind', '--tool=callgrind', '--callgrind-out-file=/dev/null', uzebox, *command.split()],
-                         stdout=subprocess.DEVNULL, stderr=subprocess.PIPE, text=True)
-    print('| `%s` | %.1f million |' % (command, int(re.search(r'Collected : (\d+)', ran.stderr)[1]) / 1e6), flush=True)
+    print('| `%s` | %.1f million |' % (command, instructions_of([uzebox, *command.split()])), flush=True)
+
+
+def live(uzebox, kernel):
+    """A frame of live play beside `trace` over as many clocks."""
+    play = ['./host', kernel + '.hex']
+    trace = [uzebox, 'trace', kernel + '.hex', 'no-pads.txt', '4', measured(play)[2]]
+    times = [(measured(play, os.devnull)[0], measured(trace, os.devnull)[0]) for _ in range(15)]
+    mine, other = (1000 * min(one) / FRAMES for one in zip(*times))
+    some, others = instructions_of(play) / FRAMES, instructions_of(trace) / FRAMES
+    print('| `%s.hex` | %.1f ms | %.1f ms | %.2f | %.1f million | %.1f million | %.2f |'
+          % (kernel, mine, other, mine / other, some, others, some / others), flush=True)
 
 
 def main():
@@ -198,6 +243,15 @@ def main():
     with tempfile.TemporaryDirectory() as folder:
         shutil.copytree(examples, folder, dirs_exist_ok=True)
         os.chdir(folder)
+        if rest == ['live']:
+            put('host.c', HOST)
+            subprocess.run(['cc', '-O2', '-I', EMBED, '-o', 'host', 'host.c', os.path.abspath(LIBRARY)], check=True)
+            print('| Kernel | A frame | of `trace` | Ratio | A frame | of `trace` | Ratio |\n|---|---|---|---|---|---|---|')
+            for kernel in KERNELS:
+                subprocess.run([uzebox, 'build', kernel + '.asm', kernel + '.hex'], check=True, stdout=subprocess.DEVNULL)
+                live(uzebox, kernel)
+            os.chdir(HERE)
+            return
         # in a process of its own, so that this one stays small
         subprocess.run([sys.executable, os.path.join(HERE, 'benchmarks.py'), uzebox, examples, 'inputs'], check=True)
         if rest == ['instructions']:

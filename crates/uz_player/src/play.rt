@@ -24,7 +24,7 @@ const HELD: usize = 65_536;
 pub struct Play {
     pub(crate) console: Console,
     pub(crate) scanner: Scanner,
-    /// The edges of the last turn.
+    /// The edges of the last turn; none once there is no next one.
     pub(crate) edges: ArrayVec<Edge, 4>,
     /// So many of them are scanned.
     pub(crate) next: usize,

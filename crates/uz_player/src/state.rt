@@ -103,7 +103,7 @@ pub struct State {
     pub timer: TimerState,
     pub pads: PadsState,
     pub picture: PictureState,
-    /// The edges of the last turn.
+    /// The edges of the last turn; none once there is no next one.
     pub edges: [EdgeState; 4],
     /// So many they are, up to 4.
     pub edge_count: u8,
