@@ -15,7 +15,7 @@ counts instructions of x86-64 instead (`valgrind --tool=callgrind`), which no ot
     benchmarks.py UZEBOX EXAMPLES live
 
 plays 100 frames by the library for C (that of the variable UZEBOX_C, else the one in release/), traces as many clocks, and prints what
-a frame takes of both: the least time of 15 runs, made in turn, and instructions.
+a frame takes of both: the least time of 15 runs, made in turn, and the instructions of ten frames after the first.
 """
 import os
 import re
@@ -173,13 +173,14 @@ FRAMES = 100
 HOST = r'''
 #include "uzebox.h"
 #include <stdio.h>
+#include <stdlib.h>
 int main(int count, char **words) {
     static uint8_t hex[1 << 20], records[1 << 18];
     static uzebox_state state;
-    FILE *file = count == 2 ? fopen(words[1], "rb") : NULL;
+    FILE *file = count == 3 ? fopen(words[1], "rb") : NULL;
     size_t length = file ? fread(hex, 1, sizeof hex, file) : 0;
     uzebox_answer answer = uzebox_reset(hex, length, 4, &state);
-    for (int k = 0; k < 100 && answer.status == UZEBOX_FRAME; k++)
+    for (int k = 0; k < atoi(words[2]) && answer.status == UZEBOX_FRAME; k++)
         answer = uzebox_frame(hex, length, &state, 0, 0, 1000000, records, sizeof records);
     printf("%llu\n", (unsigned long long)state.clock);
     return (int)answer.status;
@@ -225,11 +226,14 @@ def counted(uzebox, command):
 
 def live(uzebox, kernel):
     """A frame of live play beside `trace` over as many clocks."""
-    play = ['./host', kernel + '.hex']
-    trace = [uzebox, 'trace', kernel + '.hex', 'no-pads.txt', '4', measured(play)[2]]
-    times = [(measured(play, os.devnull)[0], measured(trace, os.devnull)[0]) for _ in range(15)]
+    def commands(frames):
+        play = ['./host', kernel + '.hex', str(frames)]
+        return play, [uzebox, 'trace', kernel + '.hex', 'no-pads.txt', '4', measured(play)[2]]
+
+    times = [[measured(words, os.devnull)[0] for words in commands(FRAMES)] for _ in range(15)]
     mine, other = (1000 * min(one) / FRAMES for one in zip(*times))
-    some, others = instructions_of(play) / FRAMES, instructions_of(trace) / FRAMES
+    first, later = ([instructions_of(words) for words in commands(frames)] for frames in (1, 11))
+    some, others = ((b - a) / 10 for a, b in zip(first, later))
     print('| `%s.hex` | %.1f ms | %.1f ms | %.2f | %.1f million | %.1f million | %.2f |'
           % (kernel, mine, other, mine / other, some, others, some / others), flush=True)
 
