@@ -5,3 +5,8 @@ pub mod PairsCover
 pub mod ChainedCovers
 pub mod ItselfCovers
 pub mod ProductsCover
+pub mod Narrows
+pub mod FlagsOfBytes
+pub mod FlagsOfPairs
+pub mod ResultsKeep
+pub mod LeftLies
