@@ -26,6 +26,19 @@ use avr_text::{AsmWhy, Operands, Symbols, Token, name_gives_word_count, value_is
 use std::alloc::Global;
 use uz_hex::Image;
 
+/// A line of a source, and where what it puts out goes.
+#[derive(Clone, Copy)]
+pub(crate) struct PlacedLine<'a> {
+    /// Its bytes.
+    pub(crate) text: &'a [u8],
+    /// Its number, from 1 on.
+    pub(crate) number: u32,
+    /// Its byte address.
+    pub(crate) address: u32,
+    /// The word address of the first instruction line behind it, and 0 where there is none.
+    pub(crate) following: u16,
+}
+
 /// Puts an instruction at a byte address.
 #[tactic(auto, unfolding(crate::specs::Assembly::with_instruction))]
 fn put_instruction(
@@ -62,29 +75,27 @@ fn put_directive(
     alloc: Global,
     built: &mut Built,
     directive: Directive,
-    line: &[u8],
+    line: &PlacedLine<'_>,
     symbols: &Symbols,
-    address: u32,
-    following: u16,
     parts: &[&[Token]],
 ) -> Result<(), AsmWhy>
-    requires lie { EachLies (length line.now) parts.now }
-    requires address { address ≤ 65536 }
+    requires lie { EachLies (length line.now.text.now) parts.now }
+    requires address { line.now.address ≤ 65536 }
     ensures { Gives (λ _. seen_built built.new) result
-        (with_directive directive line.now symbols.now address following (mapped (λ p. p.now) parts.now)
+        (with_directive directive line.now.text.now symbols.now line.now.address line.now.following (mapped (λ p. p.now) parts.now)
         (seen_built built.old)) }
 {
     match directive {
         Directive::Db => {
-            let bytes = byte_data(alloc, line, symbols, parts)?;
-            put_data(built, address, bytes.as_slice())
+            let bytes = byte_data(alloc, line.text, symbols, parts)?;
+            put_data(built, line.address, bytes.as_slice())
         }
         Directive::Dw => {
-            let bytes = word_data(alloc, line, symbols, parts)?;
-            put_data(built, address, bytes.as_slice())
+            let bytes = word_data(alloc, line.text, symbols, parts)?;
+            put_data(built, line.address, bytes.as_slice())
         }
         _ => {
-            if let Some(hint) = hint_of(directive, line, symbols, parts, following)? {
+            if let Some(hint) = hint_of(directive, line.text, symbols, parts, line.following)? {
                 built.hints.push(hint)?;
             }
             Ok(())
@@ -97,35 +108,30 @@ fn put_action(
     alloc: Global,
     built: &mut Built,
     action: Action,
-    line: &[u8],
+    line: &PlacedLine<'_>,
     symbols: &Symbols,
-    number: u32,
-    address: u32,
-    following: u16,
     parts: &[&[Token]],
 ) -> Result<(), AsmWhy>
-    requires lie { EachLies (length line.now) parts.now }
-    requires address { address ≤ 65536 }
+    requires lie { EachLies (length line.now.text.now) parts.now }
+    requires address { line.now.address ≤ 65536 }
     ensures { Gives (λ _. seen_built built.new) result
-        (with_action action line.now symbols.now number address following (mapped (λ p. p.now) parts.now)
-        (seen_built built.old)) }
+        (with_action action line.now.text.now symbols.now line.now.number line.now.address line.now.following
+        (mapped (λ p. p.now) parts.now) (seen_built built.old)) }
 {
     match action {
         Action::Instruction(mnemonic) => {
             let operands = Operands {
-                line,
+                line: line.text,
                 symbols,
-                next: address + 2,
+                next: line.address + 2,
                 parts,
             };
             let instr = operands.instruction(mnemonic)?;
-            put_instruction(alloc, built, number, address, instr)
+            put_instruction(alloc, built, line.number, line.address, instr)
         }
-        Action::Directive(directive) => {
-            put_directive(
-                alloc, built, directive, line, symbols, address, following, parts,
-            )
-        }
+        Action::Directive(directive) => put_directive(
+            alloc, built, directive, line, symbols, parts,
+        ),
         _ => Ok(()),
     }
 }
@@ -135,33 +141,22 @@ fn put_action(
 fn put_line(
     alloc: Global,
     built: &mut Built,
-    line: &[u8],
+    line: &PlacedLine<'_>,
     symbols: &Symbols,
-    number: u32,
-    address: u32,
-    following: u16,
 ) -> Result<(), AsmWhy>
-    requires short { length line.now < 2 ^ 32 - 1 }
-    requires address { address ≤ 65536 }
-    ensures { Gives (λ _. seen_built built.new) result (with_line line.now symbols.now number address following (seen_built built.old)) }
+    requires short { length line.now.text.now < 2 ^ 32 - 1 }
+    requires address { line.now.address ≤ 65536 }
+    ensures { Gives (λ _. seen_built built.new) result
+        (with_line line.now.text.now symbols.now line.now.number line.now.address line.now.following (seen_built built.old)) }
 {
-    let tokens = content_of(alloc, line)?;
+    let text = line.text;
+    let tokens = content_of(alloc, text)?;
     let tokens = tokens.as_slice();
-    let body = body_of(line.len(), tokens);
-    let action = action_of(line, body);
-    let arguments = arguments_of(line.len(), action, body);
-    let parts = parts_of(alloc, line.len(), arguments)?;
-    put_action(
-        alloc,
-        built,
-        action,
-        line,
-        symbols,
-        number,
-        address,
-        following,
-        parts.as_slice(),
-    )
+    let body = body_of(text.len(), tokens);
+    let action = action_of(text, body);
+    let arguments = arguments_of(text.len(), action, body);
+    let parts = parts_of(alloc, text.len(), arguments)?;
+    put_action(alloc, built, action, line, symbols, parts.as_slice())
 }
 
 /// The word address of the first instruction line from a line on, and 0 where there is none.
@@ -228,13 +223,19 @@ fn put_each(
         Ok(following) => following,
         Err(why) => return Err(AsmError { line: 0, why }),
     };
-    for (i, line) in lines.iter().enumerate() {
+    for (i, text) in lines.iter().enumerate() {
         match following_line(alloc, lines, addresses, i, following) {
             Ok(next) => following = next,
             Err(why) => return Err(AsmError { line: 0, why }),
         }
         let number = i as u32 + 1;
-        if let Err(why) = put_line(alloc, built, line, symbols, number, addresses[i], following) {
+        let line = PlacedLine {
+            text,
+            number,
+            address: addresses[i],
+            following,
+        };
+        if let Err(why) = put_line(alloc, built, &line, symbols) {
             return Err(AsmError::in_line(number, why));
         }
     }

@@ -7,11 +7,11 @@ use Rattle.avr_asm.proofs.assembler.put_line.Goals as goal
 
 pub body_of-body-requires : goal.body_of-body-requires
 body_of-body-requires c =
-    subst (AllLie (length c.args.line.now)) (sym c.as_slice-tokens.ensures.value) c.in_ok-tokens.ensures.lie
+    subst (AllLie (length c.args.line.now.text.now)) (sym c.as_slice-tokens.ensures.value) c.in_ok-tokens.ensures.lie
 
 pub put_action-requires-clause-lie : goal.put_action-requires-clause-lie
 put_action-requires-clause-lie c =
-    subst (EachLies (length c.args.line.now)) (sym c.as_slice.ensures.value) c.in_ok-parts.ensures.lie
+    subst (EachLies (length c.args.line.now.text.now)) (sym c.as_slice.ensures.value) c.in_ok-parts.ensures.lie
 
 pub put_action-requires-clause-address : goal.put_action-requires-clause-address
 put_action-requires-clause-address c = c.requires.address
@@ -28,7 +28,7 @@ action_of-action-requires c = c.body_of-body.ensures.lie
 pub returns : goal.returns
 returns c =
     subst (Gives (λ x. seen_built c.put_action.new.built) c.put_action.result)
-    (line_told c.args.line.now c.args.symbols.now c.args.number c.args.address c.args.following (seen_built c.args.built.now) _ _ _ _ _ _
+    (line_told c.args.line.now.text.now c.args.symbols.now c.args.line.now.number c.args.line.now.address c.args.line.now.following (seen_built c.args.built.now) _ _ _ _ _ _
     c.in_ok-tokens.ensures.tokens c.as_slice-tokens.ensures.value c.body_of-body.ensures.body c.action_of-action.ensures
     c.arguments_of-arguments.ensures.arguments
     (ap (map (λ p. p.now)) c.as_slice.ensures.value ∙ c.in_ok-parts.ensures.parts))
