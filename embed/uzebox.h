@@ -1,4 +1,4 @@
-/* The library libuzebox_c.a: Uzebox consoles played a frame at a time.
+/* The library libuzebox_c.a: Uzebox consoles played a frame at a time, and the commands of `uzebox` over files in memory.
  *
  *     cc -o program program.c libuzebox_c.a
  *
@@ -115,6 +115,41 @@ uzebox_answer uzebox_reset(const uint8_t *hex, size_t hex_length, uint32_t respo
  * in 6 and 7. A frame of 262 lines has 120,787 bytes. */
 uzebox_answer uzebox_frame(const uint8_t *hex, size_t hex_length, uzebox_state *state, uint16_t one, uint16_t two, uint32_t clocks,
                            uint8_t *records, size_t room);
+
+/* The commands. */
+
+/* How a call of uzebox_run ended: 0 to 8 is the command's exit status, as docs/MESSAGES.md lists them. 5, a file that can't be
+ * written, never comes: in memory no file is refused. From 256 on the caller's bytes stay. */
+enum {
+    UZEBOX_DONE = 0,        /* check, certify, find, why: accepted */
+    UZEBOX_USAGE = 1,       /* the words are no command */
+    UZEBOX_UNREAD = 2,      /* a file that the command reads isn't among those handed in */
+    UZEBOX_BAD_INPUT = 3,   /* a file is too long, or not in its grammar */
+    UZEBOX_REFUSED = 4,
+    UZEBOX_RUN_STOPPED = 6,
+    UZEBOX_NOT_ENTERED = 7,
+    UZEBOX_OUT_OF_MEMORY = 8, /* the command lacked memory: what it had printed and written until then is told */
+    UZEBOX_RUN_SHORT = 256, /* the command ran, and its answer needs more room: length says how much. Nothing of it is kept: call again */
+    UZEBOX_MALFORMED = 257, /* the words or the files aren't in their form, or a word isn't UTF-8; nothing was run */
+    UZEBOX_RUN_NO_MEMORY = 258 /* memory was lacking for the files that were handed in, or for the answer */
+};
+
+typedef struct {
+    uint32_t status;
+    uint32_t unused;        /* 0 */
+    uint64_t length;        /* bytes of the answer that were written, or are needed */
+} uzebox_ran;
+
+/* Runs a command of `uzebox` over files in memory, with no other file, no output and no input.
+ *
+ * Texts go in and come out one after another, each behind its length, which has eight bytes with the low one first:
+ *   words    the command's words, without the program's name
+ *   files    a name and the bytes of each file, in turn; of two files with one name the first counts
+ *   answer   the printed text, then a name and the new bytes of each file that the command made or changed, each once
+ * A command writes over a file that was handed in, and over one that it reads by an include: the answer then has the new bytes, and
+ * what the caller handed in stays. A file that is written with the bytes that it had is none that changed. */
+uzebox_ran uzebox_run(const uint8_t *words, size_t words_length, const uint8_t *files, size_t files_length, uint8_t *answer,
+                      size_t room);
 
 #ifdef __cplusplus
 }

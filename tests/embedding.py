@@ -1,12 +1,13 @@
 #!/usr/bin/env python3
-"""Plays by the library for C, and compares with the program.
+"""Plays and runs commands by the library for C, and compares with the program.
 
     embedding.py [PROGRAM]
 
 The library is that of the variable UZEBOX_C, else the one in release/. Where it isn't built, or cc or rustc lacks, what
 needs it is skipped. The examples of embed/ print what they say; 600 frames with changing buttons, or as many as a pad file has pairs for,
-are those that `play` writes, and their sound that which `wave` writes, over the pads as they were recorded; and 10,000 states, texts and rooms drawn by chance do
-no harm, under the address sanitizer where cc has it.
+are those that `play` writes, and their sound that which `wave` writes, over the pads as they were recorded. Commands over files in memory
+have the status, print the text and change the files that the program does over real ones. 10,000 states, texts and rooms drawn by
+chance, and 4,000 rows of words and files, do no harm, under the address sanitizer where cc has it.
 """
 import ctypes
 import os
@@ -59,6 +60,69 @@ int main(int count, char **words) {
         free(state), free(records), free(copy);
     }
     puts("good");
+}
+'''
+
+# each row is run after the rows before it, in a folder that has the examples
+COMMANDS = [
+    'help', 'help check', 'version', 'nothing', 'check ring.hex', 'check ring.hex ring.hex', 'dis none.hex', 'check ring.hex ring.cert',
+    'check pulse.asm ring.cert', 'build tiles.asm tiles.hex', 'build tiles.asm tiles.hex', 'check tiles.hex tiles.cert', 'check tiles.hex ring.cert',
+    'dis tiles.hex', 'timing tiles.hex tiles.cert', 'report tiles.hex tiles.cert', 'play tiles.hex tiles.cert no-pads 1000000 frames',
+    'wave tiles.hex no-pads 4 1000000 sound', 'trace tiles.hex no-pads 4 20000', 'asm pulse.asm pulse.hex', 'certify pulse.asm 4 pulse.hex pulse.cert',
+    'find pulse.hex pulse.asm 4 found.cert', 'hints pulse.hex no-pads 4 4000000 pulse.hints', 'find pulse.hex pulse.hints 4 hinted.cert',
+    'why pulse.hex pulse.hints 4', 'certify button-late.asm 4 late.hex late.cert', 'why late.hex button-late.asm 4', 'expand tiles.asm flat.asm',
+    'build tiles.asm tiles-data.asm', 'demo 7',
+]
+
+HOSTILE_RUN = r'''
+#include "uzebox.h"
+#include <stdio.h>
+#include <stdlib.h>
+#include <string.h>
+static uint64_t x = 88172645463325252ull;
+static uint64_t draw(void) { x ^= x << 13; x ^= x >> 7; x ^= x << 17; return x; }
+static size_t put(uint8_t *texts, size_t at, const void *text, uint64_t length) {
+    memcpy(texts + at, &length, 8);
+    memcpy(texts + at + 8, text, length);
+    return at + 8 + length;
+}
+int main(int count, char **names) {
+    static uint8_t words[1 << 10], files[1 << 20], text[1 << 18];
+    size_t words_length = put(words, 0, "check", 5), files_length = 0;
+    for (int k = 1; k < count; k++) {
+        FILE *file = fopen(names[k], "rb");
+        if (!file) return 2;
+        size_t length = fread(text, 1, sizeof text, file);
+        fclose(file);
+        words_length = put(words, words_length, names[k], strlen(names[k]));
+        files_length = put(files, files_length, names[k], strlen(names[k]));
+        files_length = put(files, files_length, text, length);
+    }
+    int ran = 0, malformed = 0;
+    for (int k = 0; k < 4000; k++) {
+        size_t w = k % 4 == 1 ? draw() % words_length : words_length, f = k % 4 == 2 ? draw() % files_length : files_length;
+        size_t room = draw() % 3 ? 4096 : draw() % 100;
+        uint8_t *some = malloc(w), *more = malloc(f), *answer = malloc(room + 1), *kept = malloc(room + 1);
+        memcpy(some, words, w);
+        memcpy(more, files, f);
+        for (int j = 0; k % 4 > 2 && j < 1 + (int)(draw() % 3); j++) {
+            some[draw() % w] ^= draw() % 3 ? 0 : draw();
+            more[draw() % 2 ? draw() % f : draw() % 40 % f] ^= draw();
+        }
+        memset(answer, 77, room + 1);
+        memset(kept, 77, room + 1);
+        uzebox_ran end = uzebox_run(some, w, more, f, answer, room);
+        if (end.status > 8 && (end.status < 256 || end.status > 257)) return 3;
+        if (end.status == 5 || answer[room] != 77) return 4;
+        if (end.status >= 256 && memcmp(answer, kept, room)) return 5;
+        if (end.status == 256 ? end.length <= room : end.length > room) return 6;
+        if (end.status < 256 && (end.length < 8 || end.length != 8 + (size_t)answer[0] + 256 * answer[1])) return 7; /* check writes no file */
+        if (k % 4 == 0 && room > 100 && end.status != 0) return 8;
+        ran += end.status < 256;
+        malformed += end.status == 257;
+        free(some), free(more), free(answer), free(kept);
+    }
+    puts(ran > 500 && malformed > 500 ? "good" : "few");
 }
 '''
 
@@ -149,6 +213,77 @@ def played(outcomes, path, library, name, folder):
     outcomes.tell(status == 0 and sounds in heard and len(heard) - len(sounds) < 600, '%s: sound' % name)
 
 
+class Ran(ctypes.Structure):
+    _fields_ = [('status', ctypes.c_uint32), ('unused', ctypes.c_uint32), ('length', ctypes.c_uint64)]
+
+
+def packed(texts):
+    return b''.join(len(text).to_bytes(8, 'little') + text for text in texts)
+
+
+def unpacked(texts):
+    while texts:
+        end = 8 + int.from_bytes(texts[:8], 'little')
+        yield texts[8:end]
+        texts = texts[end:]
+
+
+def called(library, words, files, room):
+    """What uzebox_run answers, and the bytes of its room."""
+    library.uzebox_run.restype = Ran
+    library.uzebox_run.argtypes = [ctypes.c_char_p, ctypes.c_size_t] * 3
+    answer = ctypes.create_string_buffer(b'*' * room, room)
+    ran = library.uzebox_run(words, len(words), files, len(files), answer, room)
+    return ran, answer.raw
+
+
+def contents(folder):
+    files = {}
+    for name in os.listdir(folder):
+        with open(os.path.join(folder, name), 'rb') as file:
+            files[name] = file.read()
+    return files
+
+
+def commands(outcomes, path, library):
+    """Each command over files in memory, and by the program over real ones."""
+    with tempfile.TemporaryDirectory() as folder:
+        for name in os.listdir(EXAMPLES):
+            if os.path.isfile(os.path.join(EXAMPLES, name)):
+                shutil.copy(os.path.join(EXAMPLES, name), folder)
+        open(os.path.join(folder, 'no-pads'), 'w').close()
+        for row in COMMANDS:
+            words, files = row.split(), contents(folder)
+            status, text = run([path, *words], folder)
+            after = contents(folder)
+            made = {name: after[name] for name in after if files.get(name) != after[name]}
+            if row == 'build tiles.asm tiles-data.asm':  # real files refuse to be written over where they are read; in memory none does
+                outcomes.equal(row + ', real files', (5, {}), (status, made))
+                status, text, made = 0, b'assembled bytes 1362\n', {'tiles-data.asm': files['tiles.hex']}
+            request = [packed(word.encode() for word in words), packed(text for name in files for text in (name.encode(), files[name]))]
+            short, room = called(library, *request, 5)
+            outcomes.tell(short.status == 256 and room == b'*' * 5, row + ': a short room')
+            outcomes.tell(called(library, *request, short.length - 1)[0].status == 256, row + ': a room that lacks one byte')
+            ran, room = called(library, *request, short.length)
+            printed, *rest = unpacked(room[:ran.length])
+            outcomes.equal(row, (status, text, sorted(made.items())),
+                           (ran.status, printed, sorted(zip((name.decode() for name in rest[::2]), rest[1::2]))))
+
+
+def malformed(outcomes, library):
+    """Words and files that aren't in their form, which are refused, and the bytes stay."""
+    words, files = packed([b'dis', b'x']), packed([b'x', b':00000001FF\n'])
+    good, _ = called(library, words, files, 100)
+    outcomes.equal('dis of no bytes', (0, 8), (good.status, good.length))
+    first = called(library, words, files + packed([b'x', b'no HEX']), 100)[0].status
+    outcomes.equal('two files of one name', 0, first)
+    rows = [(words[:-1], files), (words, files[:-1]), (words, files + b'\0'), (words, packed([b'x'])), (words + packed([b'\xff']), files),
+            (b'\xff' * 8, files), (words, b'\xff' * 16), (words + b'\0' * 7, files)]
+    for k, (some, more) in enumerate(rows):
+        ran, room = called(library, some, more, 100)
+        outcomes.equal('malformed row %d' % k, (257, 0, b'*' * 100), (ran.status, ran.length, room))
+
+
 def compiled(words, folder):
     """Whether a compiler did it."""
     return subprocess.run(words, cwd=folder, stdout=subprocess.DEVNULL, stderr=subprocess.DEVNULL).returncode == 0
@@ -162,6 +297,18 @@ def examples(outcomes, path, folder):
         outcomes.tell(status == 0 and text.count(b'\n') == 61, 'example.c')
     status, text = run([sys.executable, os.path.join(EMBED, 'example.py'), './libuzebox_c.so', 'console.hex'], folder)
     outcomes.tell(status == 0 and text.count(b'\n') == 60, 'example.py')
+    ring = [os.path.join(EXAMPLES, 'ring.' + end) for end in ('hex', 'cert')]
+    wanted = run([path, 'check', *ring], folder)
+    made = compiled(['cc', '-Wall', '-Wextra', '-Werror', '-I', EMBED, '-o', 'run-c', os.path.join(EMBED, 'run.c'), LIBRARY] + HEAP, folder)
+    if outcomes.tell(made, 'run.c is compiled'):
+        outcomes.equal('run.c', wanted, run(['./run-c', *ring], folder))
+        outcomes.equal('run.c, no HEX', run([path, 'check', ring[1], ring[0]], folder), run(['./run-c', ring[1], ring[0]], folder))
+    script = [sys.executable, os.path.join(EMBED, 'run.py'), './libuzebox_c.so']
+    outcomes.equal('run.py', wanted, run([*script, 'check', *ring], folder))
+    status, text = run([path, 'certify', os.path.join(EXAMPLES, 'pulse.asm'), '4', 'one.hex', 'one.cert'], folder)
+    outcomes.equal('run.py certifies', (status, text), run([*script, 'certify', os.path.join(EXAMPLES, 'pulse.asm'), '4', 'two.hex', 'two.cert'], folder))
+    files = contents(folder)
+    outcomes.tell(all(files['one.' + end] == files['two.' + end] for end in ('hex', 'cert')), 'run.py writes the HEX file and the certificate')
     if not shutil.which('rustc'):
         return outcomes.skip('rustc lacks')
     shutil.copy(LIBRARY, folder)
@@ -169,16 +316,19 @@ def examples(outcomes, path, folder):
     if outcomes.tell(made, 'example.rs is compiled'):
         status, text = run(['./example-rs', 'console.hex'], folder)
         outcomes.tell(status == 0 and text.count(b'\n') == 61, 'example.rs')
+    made = compiled(['rustc', '-L', folder] + ['-Clink-arg=' + file for file in HEAP] + [os.path.join(EMBED, 'run.rs'), '-o', 'run-rs'], folder)
+    if outcomes.tell(made, 'run.rs is compiled'):
+        outcomes.equal('run.rs', wanted, run(['./run-rs', *ring], folder))
 
 
-def hostile(outcomes, path, folder):
-    with open(os.path.join(folder, 'hostile.c'), 'w') as file:
-        file.write(HOSTILE)
-    words = ['cc', '-O1', '-I', EMBED, '-o', 'hostile', 'hostile.c', LIBRARY] + HEAP
-    if not compiled(words + ['-fsanitize=address'], folder) and not outcomes.tell(compiled(words, folder), 'hostile states: compiled'):
-        return
-    kernel(path, 'console', folder)
-    outcomes.equal('hostile states', (0, b'good\n'), run(['./hostile', 'console.hex'], folder))
+def hostile(outcomes, path, folder, name, text, *files):
+    """A program that hands over what is drawn by chance, under the address sanitizer where cc has it."""
+    with open(os.path.join(folder, name + '.c'), 'w') as file:
+        file.write(text)
+    words = ['cc', '-O1', '-I', EMBED, '-o', name, name + '.c', LIBRARY] + HEAP
+    if compiled(words + ['-fsanitize=address'], folder) or outcomes.tell(compiled(words, folder), name + ': compiled'):
+        kernel(path, 'console', folder)
+        outcomes.equal(name, (0, b'good\n'), run(['./' + name, *files], folder))
 
 
 def main():
@@ -192,8 +342,13 @@ def main():
             library = ctypes.CDLL(os.path.join(folder, 'libuzebox_c.so'))
             for name in KERNELS:
                 played(outcomes, path, library, name, folder)
+            commands(outcomes, path, library)
+            malformed(outcomes, library)
             examples(outcomes, path, folder)
-        hostile(outcomes, path, folder)
+        hostile(outcomes, path, folder, 'hostile-states', HOSTILE, 'console.hex')
+        for end in ('hex', 'cert'):
+            shutil.copy(os.path.join(EXAMPLES, 'ring.' + end), folder)
+        hostile(outcomes, path, folder, 'hostile-rows', HOSTILE_RUN, 'ring.hex', 'ring.cert')
     outcomes.end()
 
 

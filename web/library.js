@@ -23,23 +23,23 @@ export async function load() {
   throw new Error(`${PLACES[0]} isn't there: make it by web/build, and serve the top of the repository.`);
 }
 
-// A list of fields: of each, four bytes of its length with the low byte first, and its bytes.
-function packed(fields) {
-  const out = new Uint8Array(fields.reduce((sum, it) => sum + 4 + it.length, 0)), view = new DataView(out.buffer);
+// Texts one after another, each behind its length: eight bytes with the low one first.
+function packed(texts) {
+  const out = new Uint8Array(texts.reduce((sum, it) => sum + 8 + it.length, 0)), view = new DataView(out.buffer);
   let at = 0;
-  for (const field of fields) {
-    view.setUint32(at, field.length, true);
-    out.set(field, at + 4);
-    at += 4 + field.length;
+  for (const text of texts) {
+    view.setBigUint64(at, BigInt(text.length), true);
+    out.set(text, at + 8);
+    at += 8 + text.length;
   }
   return out;
 }
 
 function unpacked(bytes) {
-  const view = new DataView(bytes.buffer, bytes.byteOffset, bytes.byteLength), fields = [];
-  for (let at = 0; at < bytes.length; at += 4 + fields.at(-1).length)
-    fields.push(bytes.subarray(at + 4, at + 4 + view.getUint32(at, true)));
-  return fields;
+  const view = new DataView(bytes.buffer, bytes.byteOffset, bytes.byteLength), texts = [];
+  for (let at = 0; at < bytes.length; at += 8 + texts.at(-1).length)
+    texts.push(bytes.subarray(at + 8, at + 8 + Number(view.getBigUint64(at, true))));
+  return texts;
 }
 
 class Library {
@@ -121,14 +121,15 @@ class Library {
     return 'uzebox_run' in this.wasm;
   }
 
-  // A command of uzebox over files in memory, a Map from names to bytes: its status, what it prints, and the files that its words name.
+  // A command of uzebox over files in memory, a Map from names to bytes: its status, what it prints, and the files that it made or
+  // changed.
   run(words, files) {
-    const coder = new TextEncoder(), fields = [coder.encode(words.map(it => it + '\n').join(''))];
-    for (const [name, bytes] of files) fields.push(coder.encode(name), bytes);
-    const request = packed(fields), place = this.put(request);
+    const coder = new TextEncoder(), texts = [];
+    for (const [name, bytes] of files) texts.push(coder.encode(name), bytes);
+    const given = [packed(words.map(it => coder.encode(it))), packed(texts)], places = given.map(it => this.put(it));
     for (let size = 1 << 20; ;) {
       const answer = this.room(size);
-      this.wasm.uzebox_run(this.answer, place.at, BigInt(request.length), answer.at, BigInt(size));
+      this.wasm.uzebox_run(this.answer, places[0].at, BigInt(given[0].length), places[1].at, BigInt(given[1].length), answer.at, BigInt(size));
       const { status, length } = this.returned();
       const bytes = this.bytes(answer).slice(0, status < ANSWER_SHORT ? length : 0);
       this.free(answer);
@@ -136,8 +137,9 @@ class Library {
         size = length;
         continue;
       }
-      this.free(place);
-      const [text = new Uint8Array(), ...rest] = unpacked(bytes), out = new Map();
+      for (const place of places) this.free(place);
+      if (status > ANSWER_SHORT) throw new Error(`The command isn't run: ${status}.`);
+      const [text, ...rest] = unpacked(bytes), out = new Map();
       for (let k = 0; k + 1 < rest.length; k += 2) out.set(new TextDecoder().decode(rest[k]), rest[k + 1]);
       return { status, text: new TextDecoder().decode(text), files: out };
     }

@@ -1,0 +1,4 @@
+pub mod PackedLaws
+pub mod HeldLaws
+pub mod ChangeLaws
+pub mod RunLaws
