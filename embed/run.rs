@@ -31,7 +31,7 @@ fn main() {
     };
     assert!(ran.status < 256, "the call ended with {}", ran.status);
     let (length, text) = answer.split_at(8); // the first text of the answer is what the command prints
-    let length = u64::from_le_bytes(length.try_into().expect("eight bytes")) as usize;
+    let length = length.iter().rev().fold(0, |sum, byte| sum << 8 | usize::from(*byte));
     print!("{}", String::from_utf8_lossy(&text[..length]));
     std::process::exit(ran.status as i32);
 }
