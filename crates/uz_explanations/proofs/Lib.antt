@@ -5,3 +5,6 @@ pub mod Counts
 pub mod Ranks
 pub mod Values
 pub mod Lines
+pub mod SeenLemmas
+pub mod RankLaws
+pub mod CrowdLemmas

@@ -36,10 +36,9 @@ all_parts t0 t1 t2 t3 t4 t5 xs a b c d e =
     e ∙ ap (λ t. t ++ cells_text xs) (d ∙ ap (λ t. t ++ s) (c ∙ ap (λ t. t ++ f) (b ∙ ap (λ t. t ++ p) a ∙ append_assoc t0 r p)
     ∙ append_assoc t0 (r ++ p) f) ∙ append_assoc t0 (r ++ p ++ f) s) ∙ append_assoc t0 (r ++ p ++ f ++ s) (cells_text xs)
 
-pub four_more : (t0 t1 t2 t3 a b c d : List ℕ) → t1 ≡ t0 ++ a → t2 ≡ t1 ++ b ++ c → t3 ≡ t2 ++ d → t3 ≡ t0 ++ (a ++ b ++ c ++ d)
-four_more t0 t1 t2 t3 a b c d first more last =
-    last ∙ ap (λ t. t ++ d) (more ∙ ap (λ t. t ++ b ++ c) first ∙ ap (λ t. t ++ c) (append_assoc t0 a b) ∙ append_assoc t0 (a ++ b) c)
-    ∙ append_assoc t0 (a ++ b ++ c) d
+pub three_more : (t0 t1 t2 t3 a b c : List ℕ) → t1 ≡ t0 ++ a → t2 ≡ t1 ++ b → t3 ≡ t2 ++ c → t3 ≡ t0 ++ (a ++ b ++ c)
+three_more t0 t1 t2 t3 a b c first more last =
+    last ∙ ap (λ t. t ++ c) (more ∙ ap (λ t. t ++ b) first ∙ append_assoc t0 a b) ∙ append_assoc t0 (a ++ b) c
 
 -- a program counter
 pub crowd_told : (t0 t1 t2 : List ℕ) (instances here : List Instance) (c : Crowd) → t1 ≡ t0 ++ head_line c

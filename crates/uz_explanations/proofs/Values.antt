@@ -1,21 +1,19 @@
 -- Values that are put one after another, each unless it is there, are each of them once.
-use Rattle.std.proofs.Common.{◌≡◌, ◌≤◌, ◌<◌, ◌+◌, ◌∙◌, ℕ, Bool, true, false, not, ◌&&◌, ◌||◌, List, [], ◌∷◌, ◌++◌, refl, sym, ap, subst, length, min, map, drop, get_or, Option, Some, None, Bor, arith}
+use Rattle.std.proofs.Common.{◌≡◌, ◌≤◌, ◌+◌, ◌∙◌, Bool, true, false, not, ◌&&◌, ◌||◌, List, [], ◌∷◌, ◌++◌, refl, sym, ap, subst, length, min, Option, Some, None, ltb, arith}
 use Rattle.std.specs.Prelude.{filter}
 use Rattle.std.specs.List.{cons_option}
-use Rattle.std.proofs.lemmas.List.{append_assoc, append-nil, drop_more, length-append}
-use Rattle.std.proofs.lemmas.Bool.{and_parts, eqb-true}
+use Rattle.std.proofs.lemmas.List.{append_assoc, append-nil, length-append}
+use Rattle.std.proofs.lemmas.Bool.{and_parts, eqb-true, ltb-true, ltb-false}
 use Rattle.uz_schedule.specs.Ends.{Ends}
 use Rattle.uz_schedule.specs.declared.facts.Bit.{Bit}
 use Rattle.uz_schedule.specs.declared.facts.Bit.TheVariants as bits
 use Rattle.uz_schedule.specs.declared.facts.Val.{Val}
 use Rattle.uz_schedule.specs.declared.facts.Val.TheVariants.{Range, Old, OldFlags}
-use Rattle.uz_schedule.specs.declared.states.Instance.{Instance}
-use Rattle.uz_explanations.specs.declared.parts.Class.{Class}
 use Rattle.uz_explanations.specs.declared.parts.Value.{Value}
 use Rattle.uz_explanations.specs.declared.parts.Value.TheVariants as what
-use Rattle.uz_explanations.specs.Parts.{said, same, same_bit, same_ends, same_val}
-use Rattle.uz_explanations.specs.Differing.{each_once, most_values, values}
-use Rattle.uz_explanations.specs.Putting.{is_among, noted, put_once}
+use Rattle.uz_explanations.specs.Parts.{same, same_bit, same_ends, same_val}
+use Rattle.uz_explanations.specs.Differing.{each_once, most_values}
+use Rattle.uz_explanations.specs.Putting.{is_among, keep_all, noted, put_once}
 
 abbrev pub put_all : List Value → List Value → List Value
 put_all seen [] = seen
@@ -159,37 +157,42 @@ pub put_all_long : (seen xs : List Value) → length seen ≤ length (put_all se
 put_all_long seen xs =
     let is = ap length (put_all_is seen xs) ∙ length-append seen (filter (new seen) (each_once xs)) in omega (arith, is)
 
--- Values of instances, one instance later
+-- Values that are kept up to a number
 
-module _ (class : Class) (k : ℕ) (xs : List (Bor Instance)) (i : ℕ) (x : Bor Instance) where
-  abbrev pub left : List (Bor Instance) → List Value
-  left l = values class k (map (λ y. y.now) l)
+put_long : (seen : List Value) (x : Value) → length seen ≤ length (put_once seen x)
+put_long seen x = put_all_long seen (x ∷ [])
 
-  at_next : (seen : List Value) → i < length xs → x ≡ get_or xs i x
-      → put_all seen (left (drop i xs)) ≡ put_all seen (left (x ∷ drop (i + 1) xs))
-  at_next seen below is = ap (λ l. put_all seen (left l)) (drop_more xs i x below ∙ ap (λ y. y ∷ drop (i + 1) xs) (sym is))
+put_short : (seen : List Value) (x : Value) → length (put_once seen x) ≤ length seen + 1
+put_short seen x = by_case (is_among seen x) refl
+  where
+    by_case : (b : Bool) → is_among seen x ≡ b → length (put_once seen x) ≤ length seen + 1
+    by_case true e = rw e (omega arith)
+    by_case false e = let is = length-append seen (x ∷ []) in rw e (omega (arith, is))
 
-  pub put_more : (o : Option Value) (seen seen' all : List Value) → i < length xs → x ≡ get_or xs i x → o ≡ said class k x.now
-      → seen' ≡ noted seen o → put_all seen (left (drop i xs)) ≡ all → put_all seen' (left (drop (i + 1) xs)) ≡ all
-  put_more o seen seen' all below is says put before =
-      ap (λ s. put_all s (left (drop (i + 1) xs))) put ∙ sym (opened o (left (drop (i + 1) xs)))
-      ∙ ap (λ p. put_all seen (cons_option p (left (drop (i + 1) xs)))) says ∙ sym (at_next seen below is) ∙ before
-    where
-      opened : (p : Option Value) (rest : List Value) → put_all seen (cons_option p rest) ≡ put_all (noted seen p) rest
-      opened None rest = refl
-      opened (Some v) rest = refl
+-- as many are kept as are put, up to that number
+pub keep_counts : (seen xs : List Value) → length seen ≤ most_values → length (keep_all seen xs) ≡ min most_values (length (put_all seen xs))
+keep_counts seen [] few = omega (arith, few)
+keep_counts seen (x ∷ xs) few = by_case (ltb (length seen) most_values) refl (λ s. keep_counts s xs)
+  where
+    by_case : (b : Bool) → ltb (length seen) most_values ≡ b
+        → ((s : List Value) → length s ≤ most_values → length (keep_all s xs) ≡ min most_values (length (put_all s xs)))
+        → length (keep_all seen (x ∷ xs)) ≡ min most_values (length (put_all (put_once seen x) xs))
+    by_case true e later =
+        let less = ltb-true (length seen) most_values e in
+        let short = put_short seen x in
+        rw e (later (put_once seen x) (omega (arith, less, short)))
+    by_case false e later =
+        let many = ltb-false (length seen) most_values e in
+        let one = put_long seen x in
+        let all = put_all_long (put_once seen x) xs in
+        let old = put_all_long seen xs in
+        let counted = later seen few in
+        rw e (omega (arith, counted, many, one, all, old))
 
--- what is counted
+pub counted : (xs : List Value) → length (keep_all [] xs) ≡ min most_values (length (each_once xs))
+counted xs = keep_counts [] xs (omega arith) ∙ ap (λ l. min most_values (length l)) (put_all_once xs)
 
-pub counted_full : (seen rest all : List Value) (n : ℕ) → put_all seen rest ≡ put_all [] all → n ≡ length seen → most_values ≤ n
-    → most_values ≡ min most_values (length (each_once all))
-counted_full seen rest all n same is many =
-    let long = put_all_long seen rest in
-    let len : length (put_all seen rest) ≡ length (each_once all) = ap length (same ∙ put_all_once all) in
-    omega (arith, long, len, is, many)
-
-pub counted_all : (seen all : List Value) (n : ℕ) → seen ≡ put_all [] all → n ≡ length seen → length seen < most_values
-    → n ≡ min most_values (length (each_once all))
-counted_all seen all n same is few =
-    let len : length seen ≡ length (each_once all) = ap length (same ∙ put_all_once all) in
-    omega (arith, len, is, few)
+-- one more instance
+pub keep_more : (o : Option Value) (seen rest : List Value) → keep_all seen (cons_option o rest) ≡ keep_all (noted seen o) rest
+keep_more None seen rest = refl
+keep_more (Some x) seen rest = refl

@@ -1,5 +1,5 @@
 -- What an instruction reads, and what is known of it, in the words of a certificate.
-use Rattle.std.specs.Prelude.{ℕ, ◌+◌, ◌*◌, ◌-◌, Bool, true, false, ◌&&◌, ◌||◌, if◌then◌else◌, List, [], ◌∷◌, ◌++◌, Option, Some, None}
+use Rattle.std.specs.Prelude.{ℕ, ◌+◌, ◌*◌, ◌-◌, Bool, false, ◌&&◌, ◌||◌, if◌then◌else◌, List, [], ◌∷◌, ◌++◌, Option, Some, None}
 use Rattle.std.specs.Prelude.{codes, decimal, drop, length, nat_eq, slice_index_or}
 use Rattle.avr_table.specs.declared.Instr.{Instr}
 use Rattle.uz_core.specs.Effects.{effect_of}
@@ -14,7 +14,7 @@ use Rattle.uz_core.specs.declared.machine.AddressMode.TheVariants.{Direct, Displ
 use Rattle.uz_core.specs.declared.machine.SkipTest.{SkipTest}
 use Rattle.uz_core.specs.declared.machine.SkipTest.TheVariants.{Equal, RegisterBit, IoBit}
 use Rattle.uz_core.specs.declared.machine.JumpTarget.{JumpTarget}
-use Rattle.uz_core.specs.declared.machine.JumpTarget.TheVariants.{Absolute, Relative, Indirect}
+use Rattle.uz_core.specs.declared.machine.JumpTarget.TheVariants.{Indirect}
 use Rattle.uz_core.specs.declared.machine.Effect.{Effect}
 use Rattle.uz_core.specs.declared.machine.Effect.TheVariants.{CopyByte, CopyPair, Binary, Unary, AddToPair, Multiply, Load, Store, PushByte, PopByte}
 use Rattle.uz_core.specs.declared.machine.Effect.TheVariants.{LoadProgram, LoadBit, StoreBit, Branch, SkipIf, Jump, Return}

@@ -12,3 +12,5 @@ pub mod Parts
 pub mod Differing
 pub mod Telling
 pub mod Putting
+pub mod Seen
+pub mod Numbers

@@ -1,12 +1,13 @@
 -- The lines of a trail, in which turns of a loop that come again are one line: stretches of the trail whose program counters are those of
 -- the stretch before.
-use Rattle.std.specs.Prelude.{ℕ, zero, suc, ◌+◌, ◌-◌, ◌/◌, ◌%◌, Bool, ◌&&◌, if◌then◌else◌, List, [], ◌∷◌, ◌++◌, codes, decimal, drop, nat_eq}
+use Rattle.std.specs.Prelude.{ℕ, zero, suc, ◌-◌, ◌/◌, ◌%◌, Bool, ◌&&◌, if◌then◌else◌, List, [], ◌∷◌, ◌++◌, codes, drop, nat_eq}
 use Rattle.std.specs.Prelude.{nat_le}
 use Rattle.std.specs.Ordering.{nat_cmp}
 use Rattle.std.specs.FinMap.{FinMap}
 use Rattle.uz_schedule.specs.declared.states.Instance.{Instance}
 use Rattle.avr_asm.specs.declared.labels.Label.{Label}
 use Rattle.uz_explanations.specs.Beginnings.{common}
+use Rattle.uz_explanations.specs.Numbers.{come, counted}
 use Rattle.uz_explanations.specs.Readings.{Reading}
 use Rattle.uz_explanations.specs.TrailLines.{trail_line}
 
@@ -33,7 +34,7 @@ stretch trail i = stretch_from trail i 1 64
 -- the last n instances come so many times more
 unfoldable pub turns_line : ℕ → ℕ → List ℕ
 turns_line n times =
-    (codes "; the last " ++ decimal n) ++ (codes " instructions come " ++ decimal times) ++ codes " times more\n"
+    (codes "; the last " ++ counted n (codes " instruction")) ++ (come n ++ counted times (codes " time")) ++ codes " more\n"
 
 -- The lines of the instances from place i on, of which the first `skip` stand in a line before
 unfoldable pub lines_from : FinMap nat_cmp ℕ → Reading → List Label → List Instance → ℕ → ℕ → List Instance → List ℕ

@@ -1,6 +1,9 @@
-// A flash has one reading.
+// A flash has one reading, and the program counters that are told of are those with most instances.
 
-ghost use Rattle.std.specs.Prelude.{◌≡◌, ℕ};
+ghost use Rattle.std.specs.Prelude.{◌≡◌, ℕ, List};
+ghost use Rattle.uz_schedule.specs.declared.states.Instance.{Instance};
+ghost use Rattle.uz_explanations.specs.Counting.{counts};
+ghost use Rattle.uz_explanations.specs.Ranking.{AreGreatest, greatest};
 ghost use Rattle.uz_explanations.specs.Readings.{Reading, IsReading};
 
 use crate::reading::row_at;
@@ -17,3 +20,9 @@ pub fn flash_has_one_reading(image: &Image)
         row_at(image, pc);
     }
 }
+
+/// The law that the program counters of `crowd_text` are those with most instances, most first: of those left out none has more than one
+/// of these, and of as many the lower one comes first.
+pub fn told_are_greatest()
+    ensures { (instances : List Instance) → AreGreatest instances (greatest (counts instances)) }
+{}

@@ -1,12 +1,13 @@
 //! What is told of the program counters with most instances.
 
-ghost use Rattle.std.specs.Prelude.{◌≡◌, ◌<◌, ◌++◌, ◌^◌, IfOk, OnOk, flat_map, length};
+ghost use Rattle.std.specs.Prelude.{◌≡◌, ◌<◌, ◌++◌, ◌^◌, All, IfOk, OnOk, flat_map, length};
+ghost use Rattle.uz_explanations.specs.Counting.{count_at};
 ghost use Rattle.uz_explanations.specs.Telling.{crowd_lines, crowds_text, head_line, place_text};
 
 use crate::counting::counts_of;
-use crate::differing::{add_differing, crowd_at};
-use crate::parts::add_numbered;
+use crate::differing::add_differing;
 use crate::ranking::{Crowd, greatest};
+use crate::trail_lines::put_counted;
 use std::alloc::{AllocError, Global};
 use uz_hex::word_digits;
 use uz_schedule::Instance;
@@ -24,9 +25,8 @@ fn add_head(text: &mut Vec<u8>, crowd: Crowd) -> Result<(), AllocError>
     ensures { OnOk result (text.new.items ≡ text.old.items ++ head_line crowd) }
 {
     add_place(text, crowd.pc)?;
-    add_numbered(text, b" ", crowd.count as usize)?;
-    text.extend_from_slice(b" instances\n")?;
-    Ok(())
+    put_counted(text, b" ", u64::from(crowd.count), b" instance")?;
+    text.extend_from_slice(b"\n")
 }
 
 /// Adds the lines of a program counter.
@@ -36,11 +36,11 @@ fn add_crowd(
     instances: &[Instance],
     crowd: Crowd,
 ) -> Result<(), AllocError>
+    requires { crowd.count ≡ count_at crowd.pc instances.now }
     ensures { OnOk result (text.new.items ≡ text.old.items ++ crowd_lines instances.now crowd) }
 {
     add_head(text, crowd)?;
-    let here = crowd_at(alloc, instances, crowd.pc, crowd.count)?;
-    add_differing(alloc, text, here.as_slice())?;
+    add_differing(alloc, text, instances, crowd.pc, crowd.count)?;
     Ok(())
 }
 
@@ -51,6 +51,7 @@ fn add_crowds(
     instances: &[Instance],
     crowds: &[Crowd],
 ) -> Result<(), AllocError>
+    requires { All (λ c. c.count ≡ count_at c.pc instances.now) crowds.now }
     ensures { OnOk result (text.new.items ≡ text.old.items ++ flat_map (crowd_lines instances.now) crowds.now) }
 {
     for crowd in crowds {
@@ -66,8 +67,8 @@ fn add_crowds(
 /// ` flag c 2 values`, ` s0 256 or more values`, ` handler m1 9 values`. Values are counted up to 256. A cell has the side that follows
 /// it, and its number among those.
 ///
-/// It takes 4 bytes for each program counter up to the greatest one, and then 8 bytes for each instance of one of them at a time.
-/// Time is linear in the instances.
+/// It takes 4 bytes for each program counter up to the greatest one, and then 2 to 4 bytes for each different value of a part of one of
+/// them at a time, at most some 80,000. Time is linear in the instances, for each of the 20 up to its last one.
 pub fn crowd_text(alloc: Global, instances: &[Instance]) -> Result<Vec<u8>, AllocError>
     requires few { length instances.now < 2 ^ 32 }
     ensures { IfOk result (λ text. text.items ≡ crowds_text instances.now) }

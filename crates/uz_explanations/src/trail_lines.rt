@@ -3,6 +3,7 @@
 ghost use Rattle.std.specs.Prelude.{◌≡◌, ◌++◌, ◌+◌, ◌-◌, ◌*◌, ◌≤◌, [], None, Option, OnOk, IfOk, codes, decimal, nat_eq, if◌then◌else◌};
 ghost use Rattle.std.specs.String.{string_bytes};
 ghost use Rattle.avr_table.specs.declared.Instr.{Instr};
+ghost use Rattle.uz_explanations.specs.Numbers.{counted};
 ghost use Rattle.uz_explanations.specs.Readings.{Reading, IsReading};
 ghost use Rattle.uz_explanations.specs.TrailLines.{clock_text, kind_text, place_text, second_of, instruction_text};
 ghost use Rattle.uz_explanations.specs.TrailLines.{distance_text, nearest_text, trail_line};
@@ -23,6 +24,23 @@ pub(crate) fn put_number(text: &mut Vec<u8>, name: &[u8], number: u64) -> Result
 {
     text.extend_from_slice(name)?;
     text.extend_from_slice(Buffer::new().format(number).as_bytes())
+}
+
+/// Puts a name, a number and its word behind a text. The word ends in `s` unless there is one.
+pub(crate) fn put_counted(
+    text: &mut Vec<u8>,
+    name: &[u8],
+    number: u64,
+    word: &[u8],
+) -> Result<(), AllocError>
+    ensures { OnOk result (text.new.items ≡ text.old.items ++ (name.now ++ counted number word.now)) }
+{
+    put_number(text, name, number)?;
+    text.extend_from_slice(word)?;
+    if number == 1 {
+        return Ok(());
+    }
+    text.extend_from_slice(b"s")
 }
 
 /// Adds a kind, a line and a clock of it.

@@ -3,10 +3,11 @@
 ghost use Rattle.std.specs.Prelude.{◌≡◌, ◌<◌, ◌≤◌, ◌+◌, ◌-◌, ◌/◌, ◌%◌, ◌++◌, ◌∷◌, List, Some, OnOk, IfOk, length, slice_get};
 ghost use Rattle.uz_schedule.specs.declared.states.Instance.{Instance};
 ghost use Rattle.uz_explanations.specs.Beginnings.{common};
+ghost use Rattle.uz_explanations.specs.Numbers.{come};
 ghost use Rattle.uz_explanations.specs.Readings.{Reading, IsReading};
 ghost use Rattle.uz_explanations.specs.Turns.{same_pc, repeated, comes_again, stretch, turns_line, lines_from, turned_lines};
 
-use crate::trail_lines::{add_trail_line, put_number};
+use crate::trail_lines::{add_trail_line, put_counted};
 use avr_asm::Labels;
 use std::alloc::{AllocError, Global};
 use uz_hex::Image;
@@ -59,14 +60,21 @@ fn stretch(trail: &[Instance], i: usize) -> usize
     0
 }
 
+/// Says that so many come.
+fn verb(n: usize) -> &'static [u8]
+    ensures { result.now ≡ come n }
+{
+    if n == 1 { b" comes " } else { b" come " }
+}
+
 /// Adds the line of a stretch that comes again.
 #[tactic(auto, unfolding(crate::specs::Turns::turns_line))]
 fn add_turns(text: &mut Vec<u8>, n: usize, times: usize) -> Result<(), AllocError>
     ensures { OnOk result (text.new.items ≡ text.old.items ++ turns_line n times) }
 {
-    put_number(text, b"; the last ", n as u64)?;
-    put_number(text, b" instructions come ", times as u64)?;
-    text.extend_from_slice(b" times more\n")
+    put_counted(text, b"; the last ", n as u64, b" instruction")?;
+    put_counted(text, verb(n), times as u64, b" time")?;
+    text.extend_from_slice(b" more\n")
 }
 
 /// Adds the line of a stretch that comes again at a place, and tells how many instances behind that place stand in it.

@@ -1,4 +1,4 @@
-use Rattle.std.proofs.Common.{◌∙◌, ◌++◌, ap, arith, get_or, sym}
+use Rattle.std.proofs.Common.{◌∙◌, ◌++◌, ap, arith, sym}
 use Rattle.std.proofs.lemmas.Option.{get_or_from_slice_get}
 use Rattle.uz_explanations.specs.TrailLines.{trail_line}
 use Rattle.uz_explanations.proofs.TurnLemmas.{skipped, own_line, turned, if_ok_weaker}
