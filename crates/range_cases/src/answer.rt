@@ -38,6 +38,13 @@ pub(crate) fn print(rt: HostRuntime, answer: &Answer) -> Result<()> {
         Answer::Span(span) => println!(rt; "{} {}", span.lo(), span.hi())?,
         Answer::Wide(wide) => println!(rt; "{} {}", wide.lo(), wide.hi())?,
         Answer::Flag(bit) => println!(rt; "{}", sign(*bit))?,
+        Answer::Spans(a, b) => {
+            println!(rt; "{} {} {} {}", a.lo(), a.hi(), b.lo(), b.hi())?;
+        }
+        Answer::Wides(a, b) => {
+            println!(rt; "{} {} {} {}", a.lo(), a.hi(), b.lo(), b.hi())?;
+        }
+        Answer::Nothing => println!(rt; "none")?,
     }
     Ok(())
 }

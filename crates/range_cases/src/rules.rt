@@ -1,5 +1,6 @@
 //! The rules by their names.
 
+use crate::narrowing::narrowed;
 use crate::words::Words;
 use uz_range::{
     Form, Ranged, WideRanged, and, asr, bld, bst, chained, com, difference, high, hull, low, lsr,
@@ -21,6 +22,12 @@ pub(crate) enum Answer {
     Wide(Wide),
     /// A flag.
     Flag(Bit),
+    /// What is left of two bytes.
+    Spans(Span, Span),
+    /// What is left of two pairs.
+    Wides(Wide, Wide),
+    /// Nothing is left.
+    Nothing,
 }
 
 /// What the rule of a row answers; None where there is no such rule, or it is given something else.
@@ -36,6 +43,12 @@ pub(crate) fn ask(words: &mut Words) -> Option<Answer> {
             Some(Answer::Pair(of_product(name, words)?))
         }
         "pair_add" | "pair_sub" => Some(Answer::Pair(of_pair(name, words)?)),
+        "narrow"
+        | "narrow_pair"
+        | "narrow_result"
+        | "narrow_pair_result"
+        | "narrow_value"
+        | "narrow_bit" => narrowed(name, words),
         "swap" | "bld" | "bst" | "hull" | "low" | "high" => without_flags(name, words),
         _ => Some(Answer::Byte(of_one(name, words)?)),
     }
