@@ -5,7 +5,7 @@ ghost use Rattle.std.specs.Prelude.{◌≡◌, length};
 use arrayvec::ArrayVec;
 use uz_cert::{Cell, CertWhy, Head, Owner, Response, Span, Version};
 use uz_cert_lines::{
-    Said, Words, cell_line, end_line, entry_line, event_line, fall_line, irq_line, kind_line,
+    ParsedLine, Words, cell_line, end_line, entry_line, event_line, fall_line, irq_line, kind_line,
     point_line, rest_line, run_line, size_line, stack_line,
 };
 
@@ -39,7 +39,7 @@ fn make_head() -> Head
 /// What the due line says: after a cell at 257, an event at 28, a run of kind 1 with 7 of 100 lines left, a rest of line
 /// 19; with 3 kinds of line and 50 points, and for `q` 300 instances that are left. `K` and `P` are the lines of a kind and
 /// of a point in version 1, and `w` is an event in a line of 910 clocks.
-fn read_line(words: &mut Words, due: u8) -> Result<Said, CertWhy> {
+fn read_line(words: &mut Words, due: u8) -> Result<ParsedLine, CertWhy> {
     let head = make_head();
     match due {
         b's' => size_line(words),

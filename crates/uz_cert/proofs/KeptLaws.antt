@@ -7,7 +7,7 @@ use Rattle.std.proofs.lemmas.Nat.{mul-le}
 use Rattle.std.proofs.lemmas.List.{map-append, length-replicate}
 use Rattle.std.proofs.lemmas.List.Sums.{sum_by_push}
 use Rattle.std.proofs.lemmas.List.Elements.{All-nil, All-push, All-append, All-replicate, All-weaker}
-use Rattle.uz_schedule.specs.Limits.{clock_limit, most_events, rises, rises_from, is_length, clocks_below, lengths_fit, EventFits}
+use Rattle.uz_schedule.specs.Limits.{clock_limit, most_events, rises, is_length, clocks_below, lengths_fit, EventFits}
 use Rattle.uz_schedule.specs.Limits.{EventsFit}
 use Rattle.uz_schedule.specs.Schedule.{scanline}
 use Rattle.uz_schedule.specs.WellFormed.{StackFits, CellFits, RestFits, EntryFits, PointFits, instances_of}
@@ -18,19 +18,21 @@ use Rattle.uz_schedule.specs.declared.states.Rest.{Rest}
 use Rattle.uz_schedule.specs.declared.states.Entry.{Entry}
 use Rattle.uz_schedule.specs.declared.states.Point.{Point}
 use Rattle.uz_cert_lines.specs.declared.lines.Sizes.{Sizes}
-use Rattle.uz_cert_lines.specs.declared.lines.Said.{Said}
+use Rattle.uz_cert_lines.specs.declared.lines.ParsedLine.{ParsedLine}
 use Rattle.uz_cert_lines.specs.declared.lines.KindLine.{KindLine}
-use Rattle.uz_cert_lines.specs.declared.lines.Said.TheVariants as said
+use Rattle.uz_cert_lines.specs.declared.lines.ParsedLine.TheVariants as parsed
 use Rattle.uz_cert_lines.specs.declared.version.Version.{Version}
 use Rattle.uz_cert_lines.specs.declared.version.Version.TheVariants.{First, Second}
 use Rattle.uz_cert_laws.proofs.Tests.{and_true, both_true, true_not}
-use Rattle.uz_cert.specs.Drafts.{first_draft, lacks, due_of, with_said, draft_after}
-use Rattle.uz_cert.specs.SaidLines.{due_as}
-use Rattle.uz_cert.specs.declared.due.Due.TheVariants as due
-use Rattle.uz_cert.proofs.DueLaws.{IsDue, is_due}
+use Rattle.uz_cert.specs.Drafts.{first_draft, lacks, expected_line, with_said, draft_after}
+use Rattle.uz_cert.specs.SaidLines.{expected_as}
+use Rattle.uz_cert.specs.declared.expected_line.ExpectedLine.TheVariants as expected
+use Rattle.uz_cert.proofs.ExpectedLineLaws.{IsExpected, is_expected}
 use Rattle.uz_cert_lines.specs.Lines.{SizesFit, IsLengthIn, IsPointIn}
 use Rattle.uz_cert_lines.proofs.Lengths.{length_few}
-use Rattle.uz_cert.specs.Kept.{least_after, CellsKept, KindsKept, RestsKept, PointsKept}
+use Rattle.uz_cert_laws.specs.LineWords.{least_after}
+use Rattle.uz_cert_laws.proofs.GrowingFacts.{rises_more, after_more}
+use Rattle.uz_cert.specs.Kept.{CellsKept, KindsKept, RestsKept, PointsKept}
 use Rattle.uz_cert.specs.Kept.{ScheduleKept, StatesKept, LastIs, AreCellsDue, LateLater, Kept, IsAfterCells}
 use Rattle.uz_cert.specs.Kept.{CellSaid, KindSaid, EventSaid, RunSaid, RestSaid, EntrySaid, PointSaid, SaidFits}
 use Rattle.uz_cert.specs.declared.draft.Draft.{Draft}
@@ -38,28 +40,15 @@ use Rattle.uz_cert.specs.declared.draft.Draft.{Draft}
 pub product_few : (a b : ℕ) → a ≤ 65536 → b ≤ 256 → a * b ≤ 16777216
 product_few a b h k = mul-le a b 65536 256 h k
 
--- numbers that rise
-
-pub rises_push : (least : ℕ) (xs : List ℕ) (x : ℕ) → rises_from least xs ≡ true → least_after least xs ≤ x → rises_from least
-    (xs ++ x ∷ []) ≡ true
-rises_push least [] x h o = both_true (leb least x) true (le-leb least x o) refl
-rises_push least (y ∷ ys) x h o =
-    let both = and_true (leb least y) (rises_from (y + 1) ys) h in
-    both_true (leb least y) (rises_from (y + 1) (ys ++ x ∷ [])) both.0 (rises_push (y + 1) ys x both.1 o)
-
-pub least_push : (least : ℕ) (xs : List ℕ) (x : ℕ) → least_after least (xs ++ x ∷ []) ≡ x + 1
-least_push least [] x = refl
-least_push least (y ∷ ys) x = least_push (y + 1) ys x
-
--- the same of what elements have
+-- numbers of elements that rise
 rise_more : {A : Type 0} (f : A → ℕ) (xs : List A) (x : A) (least : ℕ) → rises (map f xs) ≡ true → least ≡ least_after 0 (map f xs)
     → least ≤ f x
     → rises (map f (xs ++ x ∷ [])) ≡ true
 rise_more f xs x least h l o =
-    subst (λ ys. rises ys ≡ true) (sym (map-append f xs (x ∷ []))) (rises_push 0 (map f xs) (f x) h (subst (λ n. n ≤ f x) l o))
+    subst (λ ys. rises ys ≡ true) (sym (map-append f xs (x ∷ []))) (rises_more 0 (map f xs) (f x) h (subst (λ n. n ≤ f x) l o))
 
 least_more : {A : Type 0} (f : A → ℕ) (xs : List A) (x : A) → f x + 1 ≡ least_after 0 (map f (xs ++ x ∷ []))
-least_more f xs x = sym (ap (least_after 0) (map-append f xs (x ∷ [])) ∙ least_push 0 (map f xs) (f x))
+least_more f xs x = after_more 0 (map f xs) (f x) ∙ ap (least_after 0) (sym (map-append f xs (x ∷ [])))
 
 -- one kind more, of a length
 
@@ -143,9 +132,9 @@ pub none : {A : Type 0} (xs : List A) (n : ℕ) → xs ≡ [] → 1 ≤ n → le
 none xs n e some = let l : length xs ≡ 0 = ap (λ ys. length ys) e in omega (arith, l, some)
 
 pub no_states_yet : (d : Draft) → Kept d → AreCellsDue d → NoStates d
-no_states_yet d k due =
+no_states_yet d k expected =
     let l = k.later in
-    let lines = l.late.0 (l.fall (inl due)) in
+    let lines = l.late.0 (l.fall (inl expected)) in
     let few = none d.lines d.sizes.lines lines k.sizes.lines_some in
     let entry = l.late.2 (inl few) in
     record { rests = l.late.1 few; entry = entry; points = l.late.3 entry; lines = lines }
@@ -321,7 +310,7 @@ cells_more h c count least k room f o = record {
   least_is = least_more (λ m. m.at) h.cells.items c;
 }
 
-cell_kept : (d : Draft) (c : Cell) → Kept d → CellSaid d c → Kept (draft_after d (said.Cell c))
+cell_kept : (d : Draft) (c : Cell) → Kept d → CellSaid d c → Kept (draft_after d (parsed.Cell c))
 unfolding draft_after
 cell_kept d c k f =
     let no = no_states_yet d k (inr f.room) in
@@ -344,7 +333,7 @@ cell_kept d c k f =
       };
     }
 
-kind_kept : (d : Draft) (n : KindLine) → Kept d → IsAfterCells d → KindSaid d n → Kept (draft_after d (said.Kind n))
+kind_kept : (d : Draft) (n : KindLine) → Kept d → IsAfterCells d → KindSaid d n → Kept (draft_after d (parsed.Kind n))
 unfolding draft_after
 kind_kept d n k a f =
     let events = k.schedule.0 in
@@ -353,7 +342,7 @@ kind_kept d n k a f =
     let none = events.present f.none_owed in
     let few = f.fits.few in
     let most = length_few n.clocks (length_in d.version n.clocks f.fits.clocks) in
-    body_kept d (draft_after d (said.Kind n)) k a refl refl refl refl (
+    body_kept d (draft_after d (parsed.Kind n)) k a refl refl refl refl (
       record {
         few = subst (λ es. length es + n.events ≤ most_events) (sym none) (omega (arith, few, most));
         each = events.each;
@@ -369,7 +358,7 @@ kind_kept d n k a f =
     ) k.states (λ _. l.fall (inr (inr f.room))) l.late l.run
 
 event_more : (d : Draft) (e : Event) → Kept d → IsAfterCells d → EventSaid d e → (last : Bool) → eqb (d.owed - 1) 0 ≡ last
-    → Kept (draft_after d (said.Event e))
+    → Kept (draft_after d (parsed.Event e))
 unfolding draft_after
 event_more d e k a f true is =
     let events = k.schedule.0 in
@@ -437,23 +426,23 @@ event_more d e k a f false is =
     ) k.states (λ _. l.fall (inr (inl f.owed))) l.late l.run in
     rw is more
 
-fall_kept : (d : Draft) (clock : ℕ) → Kept d → IsDue d due.Fall → 1 ≤ clock → clock < clock_limit → Kept (draft_after d (said.Fall clock))
+fall_kept : (d : Draft) (clock : ℕ) → Kept d → IsExpected d expected.Fall → 1 ≤ clock → clock < clock_limit → Kept (draft_after d (parsed.Fall clock))
 unfolding draft_after
 fall_kept d clock k i some low =
     let l = k.later.late in
-    body_kept d (draft_after d (said.Fall clock)) k i.0 refl refl refl refl (k.schedule.0, k.schedule.1, low, k.schedule.3) k.states
+    body_kept d (draft_after d (parsed.Fall clock)) k i.0 refl refl refl refl (k.schedule.0, k.schedule.1, low, k.schedule.3) k.states
     (λ h. absurd (past h)) (λ e. absurd (omega (arith, e, some)), l.1, l.2, l.3, l.4) k.later.run
   where
     past : (1 ≤ d.owed) ⊎ (length d.kinds < d.sizes.kinds) → ⊥
     past (inl h) = let none = i.1 in omega (arith, none, h)
     past (inr h) = not_both d.sizes.kinds (length d.kinds) i.2 h
 
-run_kept : (d : Draft) (count kind : ℕ) → Kept d → IsDue d due.Run → RunSaid d count kind
-    → Kept (draft_after d (said.Run (record { count = count; kind = kind })))
+run_kept : (d : Draft) (count kind : ℕ) → Kept d → IsExpected d expected.Run → RunSaid d count kind
+    → Kept (draft_after d (parsed.Run (record { count = count; kind = kind })))
 unfolding draft_after
 run_kept d count kind k i f =
     let l = k.later in
-    body_kept d (draft_after d (said.Run (record { count = count; kind = kind }))) k i.0 refl refl refl refl (
+    body_kept d (draft_after d (parsed.Run (record { count = count; kind = kind }))) k i.0 refl refl refl refl (
       k.schedule.0,
       k.schedule.1,
       k.schedule.2,
@@ -476,12 +465,12 @@ run_kept d count kind k i f =
 shorter : {A : Type 0} (xs : List A) (x : A) (n : ℕ) → length (xs ++ x ∷ []) < n → length xs < n
 shorter xs x n h = let l = length-append xs (x ∷ []) in omega (arith, h, l)
 
-rest_kept : (d : Draft) (r : Rest) → Kept d → IsDue d due.Rest → RestSaid d r → Kept (draft_after d (said.Rest r))
+rest_kept : (d : Draft) (r : Rest) → Kept d → IsExpected d expected.Rest → RestSaid d r → Kept (draft_after d (parsed.Rest r))
 unfolding draft_after
 rest_kept d r k i f =
     let rests = k.states.0 in
     let l = k.later in
-    body_kept d (draft_after d (said.Rest r)) k f.after refl refl refl refl k.schedule (
+    body_kept d (draft_after d (parsed.Rest r)) k f.after refl refl refl refl k.schedule (
       record {
         few = simp length-append (omega (arith, f.room));
         each = All-push (RestFits d.head d.sizes.lines d.sizes.points) d.rests r rests.each f.fits;
@@ -498,23 +487,23 @@ rest_kept d r k i f =
       l.late.4,
     ) l.run
 
-entry_kept : (d : Draft) (e : Entry) → Kept d → IsDue d due.Entry → EntrySaid d e → Kept (draft_after d (said.Entry e))
+entry_kept : (d : Draft) (e : Entry) → Kept d → IsExpected d expected.Entry → EntrySaid d e → Kept (draft_after d (parsed.Entry e))
 unfolding draft_after
 entry_kept d e k i f =
     let l = k.later in
-    body_kept d (draft_after d (said.Entry e)) k f.after refl refl refl refl k.schedule (k.states.0, f.fits, k.states.2) (λ h. l.fall (inr h))
+    body_kept d (draft_after d (parsed.Entry e)) k f.after refl refl refl refl k.schedule (k.states.0, f.fits, k.states.2) (λ h. l.fall (inr h))
     (l.late.0, l.late.1, λ h. absurd (past h), λ g. absurd (cc g), l.late.4) l.run
   where
     past : (length d.lines < d.sizes.lines) ⊎ (length d.rests < d.sizes.rests) → ⊥
     past (inl h) = not_both d.sizes.lines (length d.lines) i.0.lines h
     past (inr h) = not_both d.sizes.rests (length d.rests) i.1 h
 
-point_kept : (d : Draft) (p : Point) → Kept d → IsDue d due.Point → PointSaid d p → Kept (draft_after d (said.Point p))
+point_kept : (d : Draft) (p : Point) → Kept d → IsExpected d expected.Point → PointSaid d p → Kept (draft_after d (parsed.Point p))
 unfolding draft_after
 point_kept d p k i f =
     let points = k.states.2 in
     let l = k.later in
-    body_kept d (draft_after d (said.Point p)) k f.after refl refl refl refl k.schedule (
+    body_kept d (draft_after d (parsed.Point p)) k f.after refl refl refl refl k.schedule (
       k.states.0,
       k.states.1,
       record {
@@ -535,43 +524,43 @@ point_kept d p k i f =
     less_left : (left n sum more : ℕ) → left + sum ≡ 16777216 → n ≤ left → more ≡ sum + n → left - n + more ≡ 16777216
     less_left left n sum more h few e = omega (arith, h, few, e)
 
-end_kept : (d : Draft) → Kept d → IsDue d due.End → Kept (draft_after d said.End)
+end_kept : (d : Draft) → Kept d → IsExpected d expected.End → Kept (draft_after d parsed.End)
 unfolding draft_after
 end_kept d k i =
     let l = k.later in
-    body_kept d (draft_after d said.End) k i.0.after refl refl refl refl k.schedule k.states (λ h. l.fall (inr h))
+    body_kept d (draft_after d parsed.End) k i.0.after refl refl refl refl k.schedule k.states (λ h. l.fall (inr h))
     (l.late.0, l.late.1, l.late.2, l.late.3, λ h. absurd (not_both d.sizes.points (length d.points) i.1 h)) l.run
 
-kept_where : (d : Draft) (s : Said) → Kept d → IsDue d (due_as s) → SaidFits d s → Kept (draft_after d s)
+kept_where : (d : Draft) (s : ParsedLine) → Kept d → IsExpected d (expected_as s) → SaidFits d s → Kept (draft_after d s)
 unfolding draft_after
-kept_where d (said.Size s) k i f = opening_kept d s d.head k f.0 f.1 k.stack refl
-kept_where d (said.Irq r) k i f =
+kept_where d (parsed.Size s) k i f = opening_kept d s d.head k f.0 f.1 k.stack refl
+kept_where d (parsed.Irq r) k i f =
     let h : Head = record d.head { irq = r } in
     opening_kept d d.sizes h k f k.sizes (same_stack d.head h refl refl refl refl k.stack) refl
-kept_where d (said.Stack s) k i f =
+kept_where d (parsed.Stack s) k i f =
     opening_kept d d.sizes (record d.head { lo = s.lo; hi = s.hi; main = s.main; handler = s.handler }) k f.0 k.sizes f.1 refl
-kept_where d (said.Cell c) k i f = cell_kept d c k f
-kept_where d (said.Kind n) k i f = kind_kept d n k i.0 f
-kept_where d (said.Event e) k i f = event_more d e k i.0 f (eqb (d.owed - 1) 0) refl
-kept_where d (said.Fall clock) k i f = fall_kept d clock k i f.1 f.2
-kept_where d (said.Run r) k i f = run_kept d r.count r.kind k i f
-kept_where d (said.Rest r) k i f = rest_kept d r k i f
-kept_where d (said.Entry e) k i f = entry_kept d e k i f
-kept_where d (said.Point p) k i f = point_kept d p k i f
-kept_where d said.End k i f = end_kept d k i
+kept_where d (parsed.Cell c) k i f = cell_kept d c k f
+kept_where d (parsed.Kind n) k i f = kind_kept d n k i.0 f
+kept_where d (parsed.Event e) k i f = event_more d e k i.0 f (eqb (d.owed - 1) 0) refl
+kept_where d (parsed.Fall clock) k i f = fall_kept d clock k i f.1 f.2
+kept_where d (parsed.Run r) k i f = run_kept d r.count r.kind k i f
+kept_where d (parsed.Rest r) k i f = rest_kept d r k i f
+kept_where d (parsed.Entry e) k i f = entry_kept d e k i f
+kept_where d (parsed.Point p) k i f = point_kept d p k i f
+kept_where d parsed.End k i f = end_kept d k i
 
-pub kept_after : (d : Draft) (s : Said) → Kept d → due_of d ≡ Some (due_as s) → SaidFits d s → Kept (draft_after d s)
-kept_after d s k is f = kept_where d s k (is_due d (due_as s) k.begun is) f
+pub kept_after : (d : Draft) (s : ParsedLine) → Kept d → expected_line d ≡ Some (expected_as s) → SaidFits d s → Kept (draft_after d s)
+kept_after d s k is f = kept_where d s k (is_expected d (expected_as s) k.begun is) f
 
 -- the draft after a line, where it is known what the line says
-abbrev pub next_of : Draft → Said → Draft
+abbrev pub next_of : Draft → ParsedLine → Draft
 next_of d s = record (with_said d s) { read = d.read + 1 }
 
-pub kept_next : (d : Draft) (s : Said) → Kept d → due_of d ≡ Some (due_as s) → SaidFits d s → Kept (next_of d s)
+pub kept_next : (d : Draft) (s : ParsedLine) → Kept d → expected_line d ≡ Some (expected_as s) → SaidFits d s → Kept (next_of d s)
 unfolding draft_after
 kept_next d s k is f = kept_after d s k is f
 
 -- the same of a draft that is this one with what the line says
-pub kept_read : (d m : Draft) (s : Said) → Kept d → due_of d ≡ Some (due_as s) → SaidFits d s → m ≡ with_said d s
+pub kept_read : (d m : Draft) (s : ParsedLine) → Kept d → expected_line d ≡ Some (expected_as s) → SaidFits d s → m ≡ with_said d s
     → Kept (record m { read = d.read + 1 })
 kept_read d m s k is f e = subst (λ x. Kept (record x { read = d.read + 1 })) (sym e) (kept_next d s k is f)

@@ -1,4 +1,4 @@
-pub mod DueLaws
+pub mod ExpectedLineLaws
 pub mod FitLaws
 pub mod KeptLaws
 pub mod LineEnds
@@ -7,10 +7,9 @@ pub mod LineOrder
 pub mod Lines
 pub mod LinesSoFar
 pub mod NextLine
-pub mod Onward
 pub mod Pieces
-pub mod Results
 pub mod Runs
+pub mod SpelledText
 pub mod Steps
 pub mod TextLaws
 pub mod Whole

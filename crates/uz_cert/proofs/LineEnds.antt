@@ -12,8 +12,8 @@ use Rattle.uz_cert_lines.specs.Values.{span_of}
 use Rattle.uz_cert_lines.specs.Forms.{with_span, spans_of, LineForm, fixed, number, choice, slope, spans, items, finish, reads}
 use Rattle.uz_cert_lines.specs.declared.items.Shape.{Shape}
 use Rattle.uz_cert_lines.specs.declared.items.Facts.{Facts}
-use Rattle.uz_cert_lines.specs.declared.lines.Said.{Said}
-use Rattle.uz_cert.proofs.Results.{bind_ok, ok_same}
+use Rattle.uz_cert_lines.specs.declared.lines.ParsedLine.{ParsedLine}
+use Rattle.uz_cert_laws.proofs.Tests.{bind_ok, fine_is}
 
 end_ended : (ended : Bool) (list : List (List ℕ)) (n : ℕ) → end_of ended list ≡ Ok n → ended ≡ true
 end_ended true list n e = refl
@@ -34,7 +34,7 @@ unfolding read_items
 all_items_ended shape cells words said e = items_ended shape cells words.ended (first_facts shape.kind cells) words.list said e
 
 spans_ended : (cells : List Cell) (words : Words) (p : List Ends × Words) → spans_of cells words ≡ Ok p → p.1.ended ≡ words.ended
-spans_ended [] words p e = sym (ap (λ q. q.1.ended) (ok_same ([], words) p e))
+spans_ended [] words p e = sym (ap (λ q. q.1.ended) (fine_is ([], words) p e))
 spans_ended (m ∷ ms) words p e = by (tracks Handler m.owner) e (λ rest q g. spans_ended ms rest q g)
   where
     by : (t : Bool) → cond t (next_as (span_of m.range) words >>= (λ x. with_span x (spans_of ms (rest_of words)))) (spans_of ms words) ≡ Ok
@@ -44,9 +44,9 @@ spans_ended (m ∷ ms) words p e = by (tracks Handler m.owner) e (λ rest q g. s
     by true g later =
         let a = bind_ok (next_as (span_of m.range) words) (λ x. with_span x (spans_of ms (rest_of words))) p g in
         let b = bind_ok (spans_of ms (rest_of words)) (λ q. Ok (a.0 ∷ q.0, q.1)) p a.2 in
-        sym (ap (λ q. q.1.ended) (ok_same (a.0 ∷ b.0.0, b.0.1) p b.2)) ∙ later (rest_of words) b.0 b.1
+        sym (ap (λ q. q.1.ended) (fine_is (a.0 ∷ b.0.0, b.0.1) p b.2)) ∙ later (rest_of words) b.0 b.1
 
-pub line_ended : (form : LineForm) (words : Words) (said : Said) → reads form words ≡ Ok said → words.ended ≡ true
+pub line_ended : (form : LineForm) (words : Words) (said : ParsedLine) → reads form words ≡ Ok said → words.ended ≡ true
 line_ended (fixed wanted form) words said e =
     let m = bind_ok (next_as (fixed_of wanted) words) (λ n. reads form (rest_of words)) said e in
     line_ended form (rest_of words) said m.2

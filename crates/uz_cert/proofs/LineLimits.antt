@@ -2,7 +2,7 @@
 use Rattle.std.proofs.Common.{◌-◌, ◌<◌, ◌≤◌, ◌^◌, length, arith}
 use Rattle.uz_schedule.specs.Schedule.{scanline}
 use Rattle.uz_cert_lines.proofs.Lengths.{length_few}
-use Rattle.uz_cert_laws.specs.Said.{PlacesAre}
+use Rattle.uz_cert_laws.specs.LineWords.{PlacesAre}
 use Rattle.uz_cert.specs.Kept.{Kept}
 use Rattle.uz_cert.specs.declared.draft.Draft.{Draft}
 use Rattle.uz_cert.proofs.KeptLaws.{length_in}

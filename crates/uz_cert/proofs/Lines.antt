@@ -6,10 +6,10 @@ use Rattle.std.proofs.lemmas.Fmt.{decimal_nonempty}
 use Rattle.uz_hex.proofs.Plain.{EachPlain, Lacks}
 use Rattle.uz_cert_lines.specs.Grammar.{Words}
 use Rattle.uz_cert_lines.specs.Forms.{reads}
-use Rattle.uz_cert_lines.specs.declared.lines.Said.{Said}
-use Rattle.uz_cert_lines.specs.declared.lines.Said.TheVariants as said
+use Rattle.uz_cert_lines.specs.declared.lines.ParsedLine.{ParsedLine}
+use Rattle.uz_cert_lines.specs.declared.lines.ParsedLine.TheVariants as parsed
 use Rattle.uz_cert_writer.specs.Spelling.{line_of}
-use Rattle.uz_cert_laws.specs.Said.{line}
+use Rattle.uz_cert_laws.specs.LineWords.{line}
 use Rattle.uz_cert_laws.proofs.WordsOfLines.{words_only}
 use Rattle.uz_cert_laws.proofs.Plains.{words_again, line_lacks}
 use Rattle.uz_cert_laws.proofs.FormLaws.{IsReadable, read_plain}
@@ -18,41 +18,41 @@ use Rattle.uz_cert_laws.proofs.ScheduleLines.{kind_sound, event_sound, fall_soun
 use Rattle.uz_cert_laws.proofs.RestLine.{rest_sound}
 use Rattle.uz_cert_laws.proofs.EntryLine.{entry_sound}
 use Rattle.uz_cert_laws.proofs.PointLine.{point_sound}
-use Rattle.uz_cert.specs.Drafts.{due_of, form_of}
+use Rattle.uz_cert.specs.Drafts.{expected_line, form_of}
 use Rattle.uz_cert.specs.Kept.{Kept, SaidFits}
 use Rattle.uz_cert.specs.Reading.{words_in}
-use Rattle.uz_cert.specs.SaidLines.{due_as, said_words}
-use Rattle.uz_cert.specs.declared.due.Due.{Due}
-use Rattle.uz_cert.specs.declared.due.Due.TheVariants as due
+use Rattle.uz_cert.specs.SaidLines.{expected_as, said_words}
+use Rattle.uz_cert.specs.declared.expected_line.ExpectedLine.{ExpectedLine}
+use Rattle.uz_cert.specs.declared.expected_line.ExpectedLine.TheVariants as expected
 use Rattle.uz_cert.specs.declared.draft.Draft.{Draft}
 use Rattle.uz_cert.proofs.LineLimits.{places, kinds_few, lines_left, clocks_few}
 
 -- what is known of one line where it is due
 pub record LineSpelling : Type 0 where
-  pub again : (d : Draft) (s : Said) → Kept d → due_of d ≡ Some (due_as s) → SaidFits d s
-      → reads (form_of d (due_as s)) (line (said_words d.version d.head s)) ≡ Ok s
-  pub only : (d : Draft) (due : Due) (words : Words) (s : Said) → Kept d → due_of d ≡ Some due → reads (form_of d due) words ≡ Ok s
-      → (words ≡ line (said_words d.version d.head s)) × (due ≡ due_as s) × SaidFits d s
+  pub again : (d : Draft) (s : ParsedLine) → Kept d → expected_line d ≡ Some (expected_as s) → SaidFits d s
+      → reads (form_of d (expected_as s)) (line (said_words d.version d.head s)) ≡ Ok s
+  pub only : (d : Draft) (expected : ExpectedLine) (words : Words) (s : ParsedLine) → Kept d → expected_line d ≡ Some expected → reads (form_of d expected) words ≡ Ok s
+      → (words ≡ line (said_words d.version d.head s)) × (expected ≡ expected_as s) × SaidFits d s
 
-readable : (d : Draft) (kind : Due) → Kept d → IsReadable (form_of d kind)
+readable : (d : Draft) (kind : ExpectedLine) → Kept d → IsReadable (form_of d kind)
 unfolding form_of
-readable d due.Size k = size_sound
-readable d due.Irq k = irq_sound
-readable d due.Stack k = stack_sound
-readable d due.Cell k = cell_sound d.head.lo d.head.hi d.cell_least
-readable d due.Kind k = kind_sound d.version
-readable d due.Event k = event_sound d.clocks d.event_least (clocks_few d k)
-readable d due.Fall k = fall_sound
-readable d due.Run k = run_sound d.sizes.kinds (d.sizes.lines - length d.lines) d.run_kind (kinds_few d k) (lines_left d k)
-readable d due.Rest k = rest_sound d.head d.sizes.lines d.sizes.points d.rest_least (places d k)
-readable d due.Entry k = entry_sound d.head d.sizes.lines d.sizes.points (places d k)
-readable d due.Point k = point_sound d.version d.head d.sizes.lines d.sizes.points d.left (places d k)
-readable d due.End k = (refl, tt)
+readable d expected.Size k = size_sound
+readable d expected.Irq k = irq_sound
+readable d expected.Stack k = stack_sound
+readable d expected.Cell k = cell_sound d.head.lo d.head.hi d.cell_least
+readable d expected.Kind k = kind_sound d.version
+readable d expected.Event k = event_sound d.clocks d.event_least (clocks_few d k)
+readable d expected.Fall k = fall_sound
+readable d expected.Run k = run_sound d.sizes.kinds (d.sizes.lines - length d.lines) d.run_kind (kinds_few d k) (lines_left d k)
+readable d expected.Rest k = rest_sound d.head d.sizes.lines d.sizes.points d.rest_least (places d k)
+readable d expected.Entry k = entry_sound d.head d.sizes.lines d.sizes.points (places d k)
+readable d expected.Point k = point_sound d.version d.head d.sizes.lines d.sizes.points d.left (places d k)
+readable d expected.End k = (refl, tt)
 
-plain_words : (l : LineSpelling) (d : Draft) (s : Said) → Kept d → due_of d ≡ Some (due_as s) → SaidFits d s
+plain_words : (l : LineSpelling) (d : Draft) (s : ParsedLine) → Kept d → expected_line d ≡ Some (expected_as s) → SaidFits d s
     → EachPlain (said_words d.version d.head s)
 plain_words l d s k is f =
-    read_plain (form_of d (due_as s)) (line (said_words d.version d.head s)) s (readable d (due_as s) k) (l.again d s k is f)
+    read_plain (form_of d (expected_as s)) (line (said_words d.version d.head s)) s (readable d (expected_as s) k) (l.again d s k is f)
 
 -- the first word isn't empty
 
@@ -70,20 +70,20 @@ number_starts n ws h = by (decimal n) (decimal_nonempty n (below n h (lit≤ tt)
     by [] g = absurd (omega (arith, g))
     by (b ∷ w) g = (b, w, ws, refl)
 
-starts : (d : Draft) (s : Said) → SaidFits d s → Starts (said_words d.version d.head s)
+starts : (d : Draft) (s : ParsedLine) → SaidFits d s → Starts (said_words d.version d.head s)
 unfolding Starts
-starts d (said.Size s) f = (115, codes "ize", _, refl)
-starts d (said.Irq r) f = (105, codes "rq", _, refl)
-starts d (said.Stack s) f = (115, codes "tack", _, refl)
-starts d (said.Cell c) f = (99, codes "ell", _, refl)
-starts d (said.Kind n) f = (107, codes "ind", _, refl)
-starts d (said.Event x) f = let clock = f.fits.clock in number_starts x.clock _ (omega (arith, clock))
-starts d (said.Fall n) f = (102, codes "all", _, refl)
-starts d (said.Run r) f = (114, codes "un", _, refl)
-starts d (said.Rest r) f = (114, codes "est", _, refl)
-starts d (said.Entry x) f = (101, codes "ntry", _, refl)
-starts d (said.Point p) f = (112, codes "oint", _, refl)
-starts d said.End f = (101, codes "nd", _, refl)
+starts d (parsed.Size s) f = (115, codes "ize", _, refl)
+starts d (parsed.Irq r) f = (105, codes "rq", _, refl)
+starts d (parsed.Stack s) f = (115, codes "tack", _, refl)
+starts d (parsed.Cell c) f = (99, codes "ell", _, refl)
+starts d (parsed.Kind n) f = (107, codes "ind", _, refl)
+starts d (parsed.Event x) f = let clock = f.fits.clock in number_starts x.clock _ (omega (arith, clock))
+starts d (parsed.Fall n) f = (102, codes "all", _, refl)
+starts d (parsed.Run r) f = (114, codes "un", _, refl)
+starts d (parsed.Rest r) f = (114, codes "est", _, refl)
+starts d (parsed.Entry x) f = (101, codes "ntry", _, refl)
+starts d (parsed.Point p) f = (112, codes "oint", _, refl)
+starts d parsed.End f = (101, codes "nd", _, refl)
 
 -- a line is cut into the words that it was joined from
 
@@ -93,7 +93,7 @@ cut_again ws s p =
     subst (λ vs. words_in (line_of vs) true ≡ line vs) (sym s.3)
     (ap line (words_again s.0 s.1 s.2 (subst EachPlain s.3 p)))
 
-pub line_cut : (l : LineSpelling) (d : Draft) (s : Said) → Kept d → due_of d ≡ Some (due_as s) → SaidFits d s
+pub line_cut : (l : LineSpelling) (d : Draft) (s : ParsedLine) → Kept d → expected_line d ≡ Some (expected_as s) → SaidFits d s
     → words_in (line_of (said_words d.version d.head s)) true ≡ line (said_words d.version d.head s)
 line_cut l d s k is f = cut_again (said_words d.version d.head s) (starts d s f) (plain_words l d s k is f)
 
@@ -101,6 +101,6 @@ line_cut l d s k is f = cut_again (said_words d.version d.head s) (starts d s f)
 pub joined : (text : List ℕ) (ended : Bool) (ws : List (List ℕ)) → words_in text ended ≡ line ws → text ≡ line_of ws
 joined text ended ws e = sym (words_only text) ∙ ap (λ x. line_of x.list) e
 
-pub no_line_end : (l : LineSpelling) (d : Draft) (s : Said) → Kept d → due_of d ≡ Some (due_as s) → SaidFits d s
+pub no_line_end : (l : LineSpelling) (d : Draft) (s : ParsedLine) → Kept d → expected_line d ≡ Some (expected_as s) → SaidFits d s
     → Lacks 10 (line_of (said_words d.version d.head s))
 no_line_end l d s k is f = line_lacks (said_words d.version d.head s) (plain_words l d s k is f)

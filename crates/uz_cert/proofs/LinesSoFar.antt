@@ -3,16 +3,15 @@ use Rattle.std.proofs.Common.{◌≡◌, inl, inr, ℕ, zero, suc, ◌+◌, ◌-
 use Rattle.std.proofs.Common.{length, map, take, replicate, codes, decimal, refl, sym, ◌∙◌, ap, append_assoc, append-nil, zero-add, arith}
 use Rattle.std.proofs.Common.{length-append}
 use Rattle.std.specs.Prelude.{Option, Some, None}
-use Rattle.std.proofs.lemmas.Bool.Decides.{nat_tests}
 use Rattle.std.proofs.lemmas.List.{map-append}
 use Rattle.uz_schedule.specs.Limits.{is_length, clocks_below, lengths_fit}
 use Rattle.uz_schedule.specs.declared.header.Cell.{Cell}
 use Rattle.uz_schedule.specs.declared.lines.Event.{Event}
 use Rattle.uz_schedule.specs.declared.states.Entry.{Entry}
-use Rattle.uz_cert_lines.specs.declared.lines.Said.{Said}
-use Rattle.uz_cert_lines.specs.declared.lines.Said.TheVariants as said
+use Rattle.uz_cert_lines.specs.declared.lines.ParsedLine.{ParsedLine}
+use Rattle.uz_cert_lines.specs.declared.lines.ParsedLine.TheVariants as parsed
 use Rattle.uz_cert_lines.specs.declared.version.Version.{Version}
-use Rattle.uz_cert_laws.specs.Said.{sizes_words, response_words, stack_line_words}
+use Rattle.uz_cert_laws.specs.LineWords.{sizes_words, response_words, stack_line_words}
 use Rattle.uz_cert_laws.proofs.Tests.{and_true, so, else_so, number_is, not_number}
 use Rattle.uz_cert_writer.specs.Spelling.{line_of, cell_words, kind_words, event_words, run_words, rest_words, entry_words, point_words}
 use Rattle.uz_cert_writer.specs.Spelling.{kinds_then, runs_of, size_words, irq_words, stack_words, schedule_lines, state_lines, last_lines}
@@ -23,11 +22,12 @@ use Rattle.uz_cert_lines.specs.declared.lines.KindLine.{KindLine}
 use Rattle.uz_cert_lines.specs.declared.lines.Sizes.{Sizes}
 use Rattle.uz_schedule.specs.Schedule.{scanline}
 use Rattle.uz_schedule.specs.declared.certificate.Cert.{Cert}
-use Rattle.uz_cert.specs.SaidLines.{due_as}
+use Rattle.uz_cert.specs.SaidLines.{expected_as}
 use Rattle.uz_cert.specs.declared.draft.Draft.{Draft}
-use Rattle.uz_cert.proofs.DueLaws.{IsDue, IsWhole}
-use Rattle.uz_cert.proofs.Onward.{spelled, with_event, with_last, event_next, last_next}
+use Rattle.uz_cert.proofs.ExpectedLineLaws.{IsExpected, IsWhole}
+use Rattle.uz_cert.proofs.SpelledText.{spelled, with_event, with_last, event_next, last_next}
 use Rattle.uz_cert.proofs.Runs.{runs_more}
+use Rattle.uz_cert.proofs.LineOrder.{not_equal}
 use Rattle.uz_cert.proofs.KeptLaws.{none}
 
 abbrev Lines : Type 0
@@ -143,9 +143,6 @@ no_cells d k o =
     no_lines (map (λ c. line_of (cell_words c)) d.head.cells.items) (from_kinds d.head.cells.items d)
     (ap (λ cs. map (λ c. line_of (cell_words c)) cs) (k.later.cells o))
     (no_kinds d k d.head.cells.items empty.0 empty.1 empty.2 (k.later.fall (inl (inl o))))
-
-some_number : (n : ℕ) → 1 ≤ n → eqb n 0 ≡ false
-some_number n h = grind (arith, nat_tests)
 
 -- one line more, behind others
 
@@ -269,7 +266,7 @@ module _ (d : Draft) (k : Kept d) where
   begin_kind : (n : KindLine) → d.owed ≡ 0 → 1 ≤ n.events
       → begun_lines d.version n.events d.events n.clocks ≡ begun_so_far ++ kind_line n ∷ []
   begin_kind n o some =
-      else_so (eqb n.events 0) [] (kind_lines d.version (length d.events + n.events) d.events n.clocks) (some_number n.events some)
+      else_so (eqb n.events 0) [] (kind_lines d.version (length d.events + n.events) d.events n.clocks) (not_equal n.events 0 some)
       ∙ ap (λ es. kind_lines d.version (length es + n.events) es n.clocks) (k.schedule.0.present o)
       ∙ ap (λ m. line_of (kind_words d.version m n.clocks) ∷ []) (zero-add n.events)
       ∙ ap (λ m. begun_lines d.version m d.events d.clocks ++ kind_line n ∷ []) (sym o)
@@ -290,10 +287,10 @@ module _ (d : Draft) (k : Kept d) where
       ap (λ c. kind_lines d.version c (with e) d.clocks) same
       ∙ ap (λ t. line_of (kind_words d.version (length d.events + d.owed) d.clocks) ∷ t) (map_last (λ x. line_of (event_words x)) d.events e)
       ∙ ap (λ t. t ++ event_line e ∷ [])
-      (sym (else_so (eqb d.owed 0) [] (kind_lines d.version (length d.events + d.owed) d.events d.clocks) (some_number d.owed some)))
+      (sym (else_so (eqb d.owed 0) [] (kind_lines d.version (length d.events + d.owed) d.events d.clocks) (not_equal d.owed 0 some)))
 
   event_adds : (e : Event) → EventSaid d e → (t : Bool) → eqb (d.owed - 1) 0 ≡ t
-      → so_far (draft_after d (said.Event e)) ≡ so_far d ++ event_line e ∷ []
+      → so_far (draft_after d (parsed.Event e)) ≡ so_far d ++ event_line e ∷ []
   unfolding draft_after
   event_adds e f false is =
       let longer = one_longer e in
@@ -322,13 +319,13 @@ module _ (d : Draft) (k : Kept d) where
       ∙ behind kinds_so_far begun_so_far (begun_so_far ++ event_line e ∷ []) (event_line e) refl
       ∙ ap (λ t. (kinds_so_far ++ t) ++ event_line e ∷ []) (sym (ap (λ t. begun_so_far ++ t) empty ∙ append-nil begun_so_far))))
 
-  cell_adds : (c : Cell) → CellSaid d c → so_far (draft_after d (said.Cell c)) ≡ so_far d ++ line_of (cell_words c) ∷ []
+  cell_adds : (c : Cell) → CellSaid d c → so_far (draft_after d (parsed.Cell c)) ≡ so_far d ++ line_of (cell_words c) ∷ []
   unfolding draft_after
   cell_adds c f =
       let empty = l.kinds (inr f.room) in
       let fall = l.fall (inl (inr f.room)) in
       let more = map (λ x. line_of (cell_words x)) (cs ++ c ∷ []) in
-      in_cells d (draft_after d (said.Cell c)) (line_of (cell_words c)) f.body refl refl
+      in_cells d (draft_after d (parsed.Cell c)) (line_of (cell_words c)) f.body refl refl
       (ap (λ t. more ++ t) (no_kinds d k (cs ++ c ∷ []) empty.0 empty.1 empty.2 fall)
       ∙ append-nil more
       ∙ map_last (λ x. line_of (cell_words x)) cs c
@@ -339,67 +336,67 @@ module _ (d : Draft) (k : Kept d) where
   lacks_none None e = refl
   lacks_none (Some x) e = absurd cc
 
-  pub so_far_after : (s : Said) → IsDue d (due_as s) → SaidFits d s → so_far (draft_after d s) ≡ so_far d ++ spelled d.version d.head s ∷ []
+  pub so_far_after : (s : ParsedLine) → IsExpected d (expected_as s) → SaidFits d s → so_far (draft_after d s) ≡ so_far d ++ spelled d.version d.head s ∷ []
   unfolding draft_after
-  so_far_after (said.Size s) i f =
-      let e = draft_after d (said.Size s) in
-      opened d e (spelled d.version d.head (said.Size s)) k f.0 refl refl
+  so_far_after (parsed.Size s) i f =
+      let e = draft_after d (parsed.Size s) in
+      opened d e (spelled d.version d.head (parsed.Size s)) k f.0 refl refl
       (ap (λ n. take (n + 1 - 1) (opening e)) i
-      ∙ ap (λ n. take (n - 1) (opening d) ++ spelled d.version d.head (said.Size s) ∷ []) (sym i))
-  so_far_after (said.Irq r) i f =
-      let e = draft_after d (said.Irq r) in
-      opened d e (spelled d.version d.head (said.Irq r)) k f refl refl
+      ∙ ap (λ n. take (n - 1) (opening d) ++ spelled d.version d.head (parsed.Size s) ∷ []) (sym i))
+  so_far_after (parsed.Irq r) i f =
+      let e = draft_after d (parsed.Irq r) in
+      opened d e (spelled d.version d.head (parsed.Irq r)) k f refl refl
       (ap (λ n. take (n + 1 - 1) (opening e)) i
-      ∙ ap (λ n. take (n - 1) (opening d) ++ spelled d.version d.head (said.Irq r) ∷ []) (sym i))
-  so_far_after (said.Stack s) i f =
-      let e = draft_after d (said.Stack s) in
-      opened d e (spelled d.version d.head (said.Stack s)) k f.0 refl refl
+      ∙ ap (λ n. take (n - 1) (opening d) ++ spelled d.version d.head (parsed.Irq r) ∷ []) (sym i))
+  so_far_after (parsed.Stack s) i f =
+      let e = draft_after d (parsed.Stack s) in
+      opened d e (spelled d.version d.head (parsed.Stack s)) k f.0 refl refl
       (ap (λ n. take (n + 1 - 1) (opening e)) i
-      ∙ ap (λ n. take (n - 1) (opening d) ++ spelled d.version d.head (said.Stack s) ∷ []) (sym i))
-  so_far_after (said.Cell c) i f = cell_adds c f
-  so_far_after (said.Kind n) i f =
-      in_cells d (draft_after d (said.Kind n)) (kind_line n) f.body refl refl
-      (in_begun (from_begun cs (draft_after d (said.Kind n))) (kind_line n)
+      ∙ ap (λ n. take (n - 1) (opening d) ++ spelled d.version d.head (parsed.Stack s) ∷ []) (sym i))
+  so_far_after (parsed.Cell c) i f = cell_adds c f
+  so_far_after (parsed.Kind n) i f =
+      in_cells d (draft_after d (parsed.Kind n)) (kind_line n) f.body refl refl
+      (in_begun (from_begun cs (draft_after d (parsed.Kind n))) (kind_line n)
       (last_in begun_so_far (begun_lines d.version n.events d.events n.clocks) (from_fall cs d) (kind_line n)
       (begin_kind n f.none_owed f.fits.some)
       (no_fall d k cs (l.fall (inr (inr f.room))))))
-  so_far_after (said.Event e) i f = event_adds e f (eqb (d.owed - 1) 0) refl
-  so_far_after (said.Fall n) i f =
+  so_far_after (parsed.Event e) i f = event_adds e f (eqb (d.owed - 1) 0) refl
+  so_far_after (parsed.Fall n) i f =
       let w = line_of (codes "fall" ∷ decimal n ∷ []) in
-      in_cells d (draft_after d (said.Fall n)) w f.0 refl refl
-      (in_fall (from_fall cs (draft_after d (said.Fall n))) w
+      in_cells d (draft_after d (parsed.Fall n)) w f.0 refl refl
+      (in_fall (from_fall cs (draft_after d (parsed.Fall n))) w
       (last_in (fall_line d.fall) (fall_line n) (from_runs cs d) w
-      (else_so (eqb n 0) [] (w ∷ []) (some_number n f.1) ∙ ap (λ m. fall_line m ++ w ∷ []) (sym i.3))
+      (else_so (eqb n 0) [] (w ∷ []) (not_equal n 0 f.1) ∙ ap (λ m. fall_line m ++ w ∷ []) (sym i.3))
       (no_runs d k cs i.3)))
-  so_far_after (said.Run r) i f =
+  so_far_after (parsed.Run r) i f =
       let w = line_of (run_words (r.count, r.kind)) in
-      in_cells d (draft_after d (said.Run r)) w f.body refl refl
-      (in_runs (from_runs cs (draft_after d (said.Run r))) w
+      in_cells d (draft_after d (parsed.Run r)) w f.body refl refl
+      (in_runs (from_runs cs (draft_after d (parsed.Run r))) w
       (last_in run_lines (map (λ x. line_of (run_words x)) (runs_of (d.lines ++ replicate r.count r.kind))) (from_rests cs d) w
       (ap (map (λ x. line_of (run_words x))) (runs_more d.run_kind r.kind d.lines r.count l.run f.other f.some)
       ∙ map_last (λ x. line_of (run_words x)) (runs_of d.lines) (r.count, r.kind))
       (no_rests d k cs i.2)))
-  so_far_after (said.Rest r) i f =
-      in_cells d (draft_after d (said.Rest r)) (line_of (rest_words r)) f.after.body refl refl
-      (in_rests (from_rests cs (draft_after d (said.Rest r))) (line_of (rest_words r))
+  so_far_after (parsed.Rest r) i f =
+      in_cells d (draft_after d (parsed.Rest r)) (line_of (rest_words r)) f.after.body refl refl
+      (in_rests (from_rests cs (draft_after d (parsed.Rest r))) (line_of (rest_words r))
       (last_in rest_lines (map (λ x. line_of (rest_words x)) (d.rests ++ r ∷ [])) (from_entry cs d) (line_of (rest_words r))
       (map_last (λ x. line_of (rest_words x)) d.rests r) (no_entry d k cs (l.late.2 (inr f.room)))))
-  so_far_after (said.Entry e) i f =
+  so_far_after (parsed.Entry e) i f =
       let w = line_of (entry_words cs e) in
       let none_yet = lacks_none d.entry i.2 in
-      in_cells d (draft_after d (said.Entry e)) w f.after.body refl refl
-      (in_entry (from_entry cs (draft_after d (said.Entry e))) w
+      in_cells d (draft_after d (parsed.Entry e)) w f.after.body refl refl
+      (in_entry (from_entry cs (draft_after d (parsed.Entry e))) w
       (last_in (entry_line cs d.entry) (w ∷ []) (from_points cs d) w (ap (λ o. entry_line cs o ++ w ∷ []) (sym none_yet))
       (no_points d k cs none_yet)))
-  so_far_after (said.Point p) i f =
+  so_far_after (parsed.Point p) i f =
       let w = line_of (point_words cs p) in
-      in_cells d (draft_after d (said.Point p)) w f.after.body refl refl
-      (in_points (from_points cs (draft_after d (said.Point p))) w
+      in_cells d (draft_after d (parsed.Point p)) w f.after.body refl refl
+      (in_points (from_points cs (draft_after d (parsed.Point p))) w
       (last_in (map (λ x. line_of (point_words cs x)) d.points) (map (λ x. line_of (point_words cs x)) (d.points ++ p ∷ []))
       (end_line d.ended) w (map_last (λ x. line_of (point_words cs x)) d.points p) (no_end d k cs f.room)))
-  so_far_after said.End i f =
-      in_cells d (draft_after d said.End) (codes "end") f refl refl
-      (in_points (from_points cs (draft_after d said.End)) (codes "end")
+  so_far_after parsed.End i f =
+      in_cells d (draft_after d parsed.End) (codes "end") f refl refl
+      (in_points (from_points cs (draft_after d parsed.End)) (codes "end")
       (behind (map (λ x. line_of (point_words cs x)) d.points) (end_line d.ended) (end_line true) (codes "end")
       (ap (λ t. end_line t ++ codes "end" ∷ []) (sym i.2))))
 

@@ -1,13 +1,13 @@
 -- The lines of a frame as runs of one kind, and back.
 use Rattle.std.proofs.Common.{◌≡◌, ◌≢◌, ℕ, zero, suc, ◌+◌, ◌<◌, ◌≤◌, Bool, true, false, cond, eqb, List, [], ◌∷◌, ◌++◌, replicate, All}
-use Rattle.std.proofs.Common.{refl, sym, ◌∙◌, ap, subst, append-nil, arith}
+use Rattle.std.proofs.Common.{refl, sym, ◌∙◌, ap, subst, append-nil, add-one, arith}
 use Rattle.std.specs.Prelude.{⊤}
 use Rattle.std.proofs.lemmas.Bool.{eqb-true, eqb-false}
-use Rattle.std.proofs.lemmas.Bool.Decides.{nat_tests}
+use Rattle.uz_cert_laws.proofs.Tests.{not_number, same_number}
 use Rattle.std.proofs.lemmas.List.Elements.{All-nil, All-cons, All-head, All-tail}
 use Rattle.uz_cert_writer.specs.Spelling.{run_before, runs_of}
 use Rattle.uz_cert.specs.Kept.{LastIs}
-use Rattle.uz_cert.proofs.Onward.{expand, Apart}
+use Rattle.uz_cert.proofs.SpelledText.{expand, Apart}
 
 -- the runs of lines give the lines
 
@@ -16,10 +16,7 @@ expand_before kind [] = refl
 expand_before kind (r ∷ rs) = by (eqb r.1 kind) refl
   where
     longer : (n k : ℕ) → replicate (n + 1) k ≡ k ∷ replicate n k
-    longer n k = ap (λ m. replicate m k) (next n)
-      where
-        next : (m : ℕ) → m + 1 ≡ suc m
-        next m = omega arith
+    longer n k = ap (λ m. replicate m k) (add-one n)
 
     by : (t : Bool) → eqb r.1 kind ≡ t → expand (cond t ((r.0 + 1, kind) ∷ rs) ((1, kind) ∷ r ∷ rs)) ≡ kind ∷ expand (r ∷ rs)
     by true e =
@@ -76,20 +73,11 @@ runs_apart most other lines h all = good_apart most other (runs_of lines) h (all
 
 new_before : (kind : ℕ) (rs : List (ℕ × ℕ)) → Apart kind rs → run_before kind rs ≡ (1, kind) ∷ rs
 new_before kind [] h = refl
-new_before kind (r ∷ rs) h = ap (λ t. cond t ((r.0 + 1, kind) ∷ rs) ((1, kind) ∷ r ∷ rs)) (differ r.1 kind h.1)
-  where
-    differ : (a b : ℕ) → a ≢ b → eqb a b ≡ false
-    differ a b e = grind (arith, nat_tests)
+new_before kind (r ∷ rs) h = ap (λ t. cond t ((r.0 + 1, kind) ∷ rs) ((1, kind) ∷ r ∷ rs)) (not_number r.1 kind h.1)
 
 same_before : (n kind : ℕ) (rs : List (ℕ × ℕ)) → run_before kind ((n, kind) ∷ rs) ≡ (suc n, kind) ∷ rs
 same_before n kind rs =
-    ap (λ t. cond t ((n + 1, kind) ∷ rs) ((1, kind) ∷ (n, kind) ∷ rs)) (itself kind) ∙ ap (λ m. (m, kind) ∷ rs) (next n)
-  where
-    itself : (a : ℕ) → eqb a a ≡ true
-    itself a = grind (arith, nat_tests)
-
-    next : (m : ℕ) → m + 1 ≡ suc m
-    next m = omega arith
+    ap (λ t. cond t ((n + 1, kind) ∷ rs) ((1, kind) ∷ (n, kind) ∷ rs)) (same_number kind) ∙ ap (λ m. (m, kind) ∷ rs) (add-one n)
 
 run_again : (n kind : ℕ) (rs : List (ℕ × ℕ)) → Apart kind rs → runs_of (expand rs) ≡ rs → runs_of (replicate (suc n) kind ++ expand rs)
     ≡ (suc n, kind) ∷ rs

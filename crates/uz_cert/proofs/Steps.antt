@@ -4,28 +4,28 @@ use Rattle.std.specs.Prelude.{Some, Result, Ok, Err}
 use Rattle.uz_schedule.specs.declared.certificate.Cert.{Cert}
 use Rattle.uz_cert_lines.specs.declared.why.CertWhy.{CertWhy}
 use Rattle.uz_cert_lines.specs.declared.why.CertWhy.TheVariants as why
-use Rattle.uz_cert.specs.Drafts.{due_of}
+use Rattle.uz_cert.specs.Drafts.{expected_line}
 use Rattle.uz_cert.specs.Reading.{Fault, is_more, pieces_of, line_says, or_fault, cert_before, read_by, read_from}
-use Rattle.uz_cert.specs.declared.due.Due.{Due}
+use Rattle.uz_cert.specs.declared.expected_line.ExpectedLine.{ExpectedLine}
 use Rattle.uz_cert.specs.declared.draft.Draft.{Draft}
 use Rattle.uz_cert.proofs.Pieces.{some_piece}
 
-read_due : (d : Draft) (due : Due) (line : List ℕ) (rest : List (List ℕ)) → due_of d ≡ Some due
-    → read_from d (line ∷ rest) ≡ or_fault (d.read + 1) (line_says d due line (is_more rest)) (λ more. read_from more rest)
-read_due d due line rest e = ap (λ o. read_by o d line rest (λ more. read_from more rest)) e
+read_due : (d : Draft) (expected : ExpectedLine) (line : List ℕ) (rest : List (List ℕ)) → expected_line d ≡ Some expected
+    → read_from d (line ∷ rest) ≡ or_fault (d.read + 1) (line_says d expected line (is_more rest)) (λ more. read_from more rest)
+read_due d expected line rest e = ap (λ o. read_by o d line rest (λ more. read_from more rest)) e
 
-pub step_on : (d e : Draft) (due : Due) (line : List ℕ) (pieces rest : List (List ℕ)) (ended : Bool) → pieces ≡ line ∷ rest
-    → due_of d ≡ Some due
-    → ended ≡ is_more rest → line_says d due line ended ≡ Ok e → read_from e rest ≡ read_from d pieces
-step_on d e due line pieces rest ended p is more says =
-    sym (ap (read_from d) p ∙ (read_due d due line rest is
-    ∙ ap (λ r. or_fault (d.read + 1) r (λ m. read_from m rest)) (ap (line_says d due line) (sym more) ∙ says)))
+pub step_on : (d e : Draft) (expected : ExpectedLine) (line : List ℕ) (pieces rest : List (List ℕ)) (ended : Bool) → pieces ≡ line ∷ rest
+    → expected_line d ≡ Some expected
+    → ended ≡ is_more rest → line_says d expected line ended ≡ Ok e → read_from e rest ≡ read_from d pieces
+step_on d e expected line pieces rest ended p is more says =
+    sym (ap (read_from d) p ∙ (read_due d expected line rest is
+    ∙ ap (λ r. or_fault (d.read + 1) r (λ m. read_from m rest)) (ap (line_says d expected line) (sym more) ∙ says)))
 
-pub step_fault : (d : Draft) (due : Due) (line : List ℕ) (pieces rest : List (List ℕ)) (ended : Bool) (w : CertWhy) → pieces ≡ line ∷ rest
-    → due_of d ≡ Some due → ended ≡ is_more rest → line_says d due line ended ≡ Err w → read_from d pieces ≡ Err (d.read + 1, w)
-step_fault d due line pieces rest ended w p is more says =
-    ap (read_from d) p ∙ (read_due d due line rest is
-    ∙ ap (λ r. or_fault (d.read + 1) r (λ m. read_from m rest)) (ap (line_says d due line) (sym more) ∙ says))
+pub step_fault : (d : Draft) (expected : ExpectedLine) (line : List ℕ) (pieces rest : List (List ℕ)) (ended : Bool) (w : CertWhy) → pieces ≡ line ∷ rest
+    → expected_line d ≡ Some expected → ended ≡ is_more rest → line_says d expected line ended ≡ Err w → read_from d pieces ≡ Err (d.read + 1, w)
+step_fault d expected line pieces rest ended w p is more says =
+    ap (read_from d) p ∙ (read_due d expected line rest is
+    ∙ ap (λ r. or_fault (d.read + 1) r (λ m. read_from m rest)) (ap (line_says d expected line) (sym more) ∙ says))
 
 abbrev late : Draft → Result Cert Fault
 late d = Err (d.read + 1, why.NoEnd)

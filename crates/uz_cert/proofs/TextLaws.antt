@@ -10,28 +10,28 @@ use Rattle.uz_cert_lines.specs.Grammar.{Words}
 use Rattle.uz_cert_lines.specs.Forms.{LineForm, reads}
 use Rattle.uz_cert_lines.specs.FirstFault.{Allows, HasFirstFault}
 use Rattle.uz_cert_lines.specs.Lines.{head_line}
-use Rattle.uz_cert_lines.specs.declared.lines.Said.{Said}
+use Rattle.uz_cert_lines.specs.declared.lines.ParsedLine.{ParsedLine}
 use Rattle.uz_cert_lines.specs.declared.version.Version.{Version}
 use Rattle.uz_cert_lines.specs.declared.version.Version.TheVariants.{First, Second}
 use Rattle.uz_cert_lines.specs.declared.why.CertWhy.{CertWhy}
 use Rattle.uz_cert_lines.specs.declared.why.CertWhy.TheVariants as why
-use Rattle.uz_cert.specs.Drafts.{first_draft, lacks, due_of, form_of, draft_after}
+use Rattle.uz_cert.specs.Drafts.{first_draft, lacks, expected_line, form_of, draft_after}
 use Rattle.uz_cert.specs.Reading.{Fault, Gives, IsMemory, pieces_of, is_more, words_in, line_says, or_fault}
 use Rattle.uz_cert.specs.Reading.{cert_from, cert_with, cert_before, read_by, read_from, read_pieces, cert_of_text}
 use Rattle.uz_cert.specs.Texts.{Adds, Reaches, SpellsCertificate, IsCertificateText, HeadFails, LineFails, FailsAtHead, FailsLater}
 use Rattle.uz_cert.specs.Texts.{IsFirstFault}
-use Rattle.uz_cert.specs.declared.due.Due.{Due}
+use Rattle.uz_cert.specs.declared.expected_line.ExpectedLine.{ExpectedLine}
 use Rattle.uz_cert.specs.declared.draft.Draft.{Draft}
 use Rattle.uz_cert.specs.declared.errors.CertError.{CertError}
-use Rattle.uz_cert.proofs.DueLaws.{is_whole}
+use Rattle.uz_cert.proofs.ExpectedLineLaws.{is_whole}
 use Rattle.uz_cert.proofs.LineEnds.{line_ended}
-use Rattle.uz_cert.proofs.Results.{bind_ok, accepted, ok_same}
+use Rattle.uz_cert_laws.proofs.Tests.{bind_ok, fine, fine_is}
 use Rattle.uz_cert.proofs.Pieces.{some_piece}
 
 -- what is known of one line
 pub record LineLaw : Type 0 where
-  pub read : (form : LineForm) (words : Words) (s : Said) → reads form words ≡ Ok s → Allows form words s
-  pub allowed : (form : LineForm) (words : Words) (s : Said) → Allows form words s → reads form words ≡ Ok s
+  pub read : (form : LineForm) (words : Words) (s : ParsedLine) → reads form words ≡ Ok s → Allows form words s
+  pub allowed : (form : LineForm) (words : Words) (s : ParsedLine) → Allows form words s → reads form words ≡ Ok s
   pub refused : (form : LineForm) (words : Words) (w : CertWhy) → reads form words ≡ Err w → HasFirstFault form words w
   pub faulty : (form : LineForm) (words : Words) (w : CertWhy) → HasFirstFault form words w → reads form words ≡ Err w
 
@@ -57,36 +57,36 @@ same_fault m n v w e =
 abbrev refusal : CertWhy → Result Draft CertWhy
 refusal w = Err w
 
-abbrev unsaid : CertWhy → Result Said CertWhy
+abbrev unsaid : CertWhy → Result ParsedLine CertWhy
 unsaid w = Err w
 
-bind_err : (m : Result Said CertWhy) (f : Said → Draft) (w : CertWhy) → m >>= (λ s. accepted Draft (f s)) ≡ Err w → m ≡ Err w
+bind_err : (m : Result ParsedLine CertWhy) (f : ParsedLine → Draft) (w : CertWhy) → m >>= (λ s. fine (f s)) ≡ Err w → m ≡ Err w
 bind_err (Ok s) f w e = absurd cc
 bind_err (Err v) f w e =
     let same : v ≡ w = cc in
     ap unsaid same
 
-pub says_ok : (d m : Draft) (due : Due) (line : List ℕ) (ended : Bool) → line_says d due line ended ≡ Ok m
-    → (s : Said) × (reads (form_of d due) (words_in line ended) ≡ Ok s) × (m ≡ draft_after d s)
+pub says_ok : (d m : Draft) (expected : ExpectedLine) (line : List ℕ) (ended : Bool) → line_says d expected line ended ≡ Ok m
+    → (s : ParsedLine) × (reads (form_of d expected) (words_in line ended) ≡ Ok s) × (m ≡ draft_after d s)
 unfolding line_says
-says_ok d m due line ended e =
-    let b = bind_ok (reads (form_of d due) (words_in line ended)) (λ s. accepted Draft (draft_after d s)) m e in
-    (b.0, b.1, sym (ok_same (draft_after d b.0) m b.2))
+says_ok d m expected line ended e =
+    let b = bind_ok (reads (form_of d expected) (words_in line ended)) (λ s. fine (draft_after d s)) m e in
+    (b.0, b.1, sym (fine_is (draft_after d b.0) m b.2))
 
-says_err : (d : Draft) (due : Due) (line : List ℕ) (ended : Bool) (w : CertWhy) → line_says d due line ended ≡ Err w
-    → reads (form_of d due) (words_in line ended) ≡ Err w
+says_err : (d : Draft) (expected : ExpectedLine) (line : List ℕ) (ended : Bool) (w : CertWhy) → line_says d expected line ended ≡ Err w
+    → reads (form_of d expected) (words_in line ended) ≡ Err w
 unfolding line_says
-says_err d due line ended w e = bind_err (reads (form_of d due) (words_in line ended)) (draft_after d) w e
+says_err d expected line ended w e = bind_err (reads (form_of d expected) (words_in line ended)) (draft_after d) w e
 
-ok_says : (d : Draft) (due : Due) (line : List ℕ) (ended : Bool) (s : Said) → reads (form_of d due) (words_in line ended) ≡ Ok s
-    → line_says d due line ended ≡ Ok (draft_after d s)
+ok_says : (d : Draft) (expected : ExpectedLine) (line : List ℕ) (ended : Bool) (s : ParsedLine) → reads (form_of d expected) (words_in line ended) ≡ Ok s
+    → line_says d expected line ended ≡ Ok (draft_after d s)
 unfolding line_says
-ok_says d due line ended s e = ap (λ m. m >>= (λ s. accepted Draft (draft_after d s))) e
+ok_says d expected line ended s e = ap (λ m. m >>= (λ s. fine (draft_after d s))) e
 
-err_says : (d : Draft) (due : Due) (line : List ℕ) (ended : Bool) (w : CertWhy) → reads (form_of d due) (words_in line ended) ≡ Err w
-    → line_says d due line ended ≡ Err w
+err_says : (d : Draft) (expected : ExpectedLine) (line : List ℕ) (ended : Bool) (w : CertWhy) → reads (form_of d expected) (words_in line ended) ≡ Err w
+    → line_says d expected line ended ≡ Err w
 unfolding line_says
-err_says d due line ended w e = ap (λ m. m >>= (λ s. accepted Draft (draft_after d s))) e
+err_says d expected line ended w e = ap (λ m. m >>= (λ s. fine (draft_after d s))) e
 
 -- a step, or its fault
 pub fault_ok : (n : ℕ) (r : Result Draft CertWhy) (more : Draft → Result Cert Fault) (c : Cert) → or_fault n r more ≡ told c
@@ -99,21 +99,21 @@ fault_err : (n k : ℕ) (r : Result Draft CertWhy) (more : Draft → Result Cert
 fault_err n k (Ok m) more w e = inr (m, refl, e)
 fault_err n k (Err v) more w e = let same = same_fault n k v w e in inl (ap refusal same.1, sym same.0)
 
-pub read_next : (d : Draft) (s : Said) → (draft_after d s).read ≡ d.read + 1
+pub read_next : (d : Draft) (s : ParsedLine) → (draft_after d s).read ≡ d.read + 1
 unfolding draft_after
 read_next d s = refl
 
-adds : (l : LineLaw) (d m : Draft) (due : Due) (line : List ℕ) (rest : List (List ℕ)) → due_of d ≡ Some due → line_says d due line
+adds : (l : LineLaw) (d m : Draft) (expected : ExpectedLine) (line : List ℕ) (rest : List (List ℕ)) → expected_line d ≡ Some expected → line_says d expected line
     (is_more rest) ≡ Ok m
     → Adds d line m × (is_more rest ≡ true) × (m.read ≡ d.read + 1)
-adds l d m due line rest is e =
-    let s = says_ok d m due line (is_more rest) e in
-    let more = line_ended (form_of d due) (words_in line (is_more rest)) s.0 s.1 in (
+adds l d m expected line rest is e =
+    let s = says_ok d m expected line (is_more rest) e in
+    let more = line_ended (form_of d expected) (words_in line (is_more rest)) s.0 s.1 in (
       record {
-        due = due;
-        is_due = is;
+        expected = expected;
+        is_expected = is;
         said = s.0;
-        allowed = subst (λ t. Allows (form_of d due) (words_in line t) s.0) more (l.read (form_of d due) (words_in line (is_more rest)) s.0
+        allowed = subst (λ t. Allows (form_of d expected) (words_in line t) s.0) more (l.read (form_of d expected) (words_in line (is_more rest)) s.0
             s.1);
         leads = s.2;
       },
@@ -128,7 +128,7 @@ record Ends (d : Draft) (pieces : List (List ℕ)) (c : Cert) : Type 0 where
   parts : pieces ≡ lines ++ [] ∷ []
   draft : Draft
   reaches : Reaches d lines draft
-  whole : due_of draft ≡ None
+  whole : expected_line draft ≡ None
   entry : Entry
   has_entry : draft.entry ≡ Some entry
   is : c ≡ cert_from draft entry
@@ -141,20 +141,20 @@ record Fails (d : Draft) (pieces : List (List ℕ)) (n : ℕ) (w : CertWhy) : Ty
   draft : Draft
   reaches : Reaches d before draft
   number : n ≡ draft.read + 1
-  fails : LineFails (due_of draft) draft line rest w
+  fails : LineFails (expected_line draft) draft line rest w
 
 with_ok : (d : Draft) (o : Option Entry) (c : Cert) → cert_with d o ≡ told c → (e : Entry) × (o ≡ Some e) × (c ≡ cert_from d e)
 with_ok d None c e = absurd cc
 with_ok d (Some x) c e = (x, refl, sym (same_cert (cert_from d x) c e))
 
-end_ok : (d : Draft) (line : List ℕ) (rest : List (List ℕ)) (c : Cert) → due_of d ≡ None → cert_before d line rest ≡ told c
+end_ok : (d : Draft) (line : List ℕ) (rest : List (List ℕ)) (c : Cert) → expected_line d ≡ None → cert_before d line rest ≡ told c
     → Ends d (line ∷ rest) c
 unfolding cert_before
-end_ok d [] [] c due e =
+end_ok d [] [] c expected e =
     let x = with_ok d d.entry c e in
-    record { lines = []; parts = refl; draft = d; reaches = refl; whole = due; entry = x.0; has_entry = x.1; is = x.2 }
-end_ok d [] (piece ∷ rest) c due e = absurd cc
-end_ok d (b ∷ bs) rest c due e = absurd cc
+    record { lines = []; parts = refl; draft = d; reaches = refl; whole = expected; entry = x.0; has_entry = x.1; is = x.2 }
+end_ok d [] (piece ∷ rest) c expected e = absurd cc
+end_ok d (b ∷ bs) rest c expected e = absurd cc
 
 has_entry : (o : Option Entry) → lacks o ≡ false → (e : Entry) × (o ≡ Some e)
 has_entry None h = absurd cc
@@ -163,26 +163,26 @@ has_entry (Some e) h = (e, refl)
 not_told : (d : Draft) (e : Entry) (n : ℕ) (w : CertWhy) → told (cert_from d e) ≡ fault n w → ⊥
 not_told d e n w h = cc
 
-end_err : (d : Draft) (line : List ℕ) (rest : List (List ℕ)) (n : ℕ) (w : CertWhy) → 1 ≤ d.read → due_of d ≡ None → cert_before d line
+end_err : (d : Draft) (line : List ℕ) (rest : List (List ℕ)) (n : ℕ) (w : CertWhy) → 1 ≤ d.read → expected_line d ≡ None → cert_before d line
     rest ≡ fault n w
     → ((line ≢ []) ⊎ (rest ≢ [])) × (w ≡ why.NoEnd) × (n ≡ d.read + 1)
 unfolding cert_before
-end_err d [] [] n w some due e =
-    let x = has_entry d.entry (is_whole d some due).entry in
+end_err d [] [] n w some expected e =
+    let x = has_entry d.entry (is_whole d some expected).entry in
     absurd (not_told d x.0 n w (sym (ap (cert_with d) x.1) ∙ e))
-end_err d [] (piece ∷ rest) n w some due e = let s = same_fault (d.read + 1) n why.NoEnd w e in (inr (λ h. cc h), sym s.1, sym s.0)
-end_err d (b ∷ bs) rest n w some due e = let s = same_fault (d.read + 1) n why.NoEnd w e in (inl (λ h. cc h), sym s.1, sym s.0)
+end_err d [] (piece ∷ rest) n w some expected e = let s = same_fault (d.read + 1) n why.NoEnd w e in (inr (λ h. cc h), sym s.1, sym s.0)
+end_err d (b ∷ bs) rest n w some expected e = let s = same_fault (d.read + 1) n why.NoEnd w e in (inl (λ h. cc h), sym s.1, sym s.0)
 
 from_ok : (l : LineLaw) (d : Draft) (pieces : List (List ℕ)) (c : Cert) → read_from d pieces ≡ told c → Ends d pieces c
 from_ok l d [] c e = absurd cc
-from_ok l d (line ∷ rest) c e = by (due_of d) refl e (λ m h. from_ok l m rest c h)
+from_ok l d (line ∷ rest) c e = by (expected_line d) refl e (λ m h. from_ok l m rest c h)
   where
-    by : (o : Option Due) → due_of d ≡ o → read_by o d line rest (λ more. read_from more rest) ≡ told c
+    by : (o : Option ExpectedLine) → expected_line d ≡ o → read_by o d line rest (λ more. read_from more rest) ≡ told c
         → ((m : Draft) → read_from m rest ≡ told c → Ends m rest c) → Ends d (line ∷ rest) c
     by None is h later = end_ok d line rest c is h
-    by (Some due) is h later =
-        let m = fault_ok (d.read + 1) (line_says d due line (is_more rest)) (λ more. read_from more rest) c h in
-        let a = adds l d m.0 due line rest is m.1 in
+    by (Some expected) is h later =
+        let m = fault_ok (d.read + 1) (line_says d expected line (is_more rest)) (λ more. read_from more rest) c h in
+        let a = adds l d m.0 expected line rest is m.1 in
         let x = later m.0 m.2 in
         record {
           lines = line ∷ x.lines;
@@ -198,9 +198,9 @@ from_ok l d (line ∷ rest) c e = by (due_of d) refl e (λ m h. from_ok l m rest
 from_err : (l : LineLaw) (d : Draft) (pieces : List (List ℕ)) (n : ℕ) (w : CertWhy) → 1 ≤ d.read → is_more pieces ≡ true
     → read_from d pieces ≡ fault n w → Fails d pieces n w
 from_err l d [] n w some more e = absurd cc
-from_err l d (line ∷ rest) n w some more e = by (due_of d) refl e (λ m r k h. from_err l m rest n w r k h)
+from_err l d (line ∷ rest) n w some more e = by (expected_line d) refl e (λ m r k h. from_err l m rest n w r k h)
   where
-    by : (o : Option Due) → due_of d ≡ o → read_by o d line rest (λ more. read_from more rest) ≡ fault n w
+    by : (o : Option ExpectedLine) → expected_line d ≡ o → read_by o d line rest (λ more. read_from more rest) ≡ fault n w
         → ((m : Draft) → 1 ≤ m.read → is_more rest ≡ true → read_from m rest ≡ fault n w → Fails m rest n w) → Fails d (line ∷ rest) n w
     by None is h later =
         let x = end_err d line rest n w some is h in
@@ -214,8 +214,8 @@ from_err l d (line ∷ rest) n w some more e = by (due_of d) refl e (λ m r k h.
           number = x.2;
           fails = subst (λ o. LineFails o d line rest w) (sym is) (x.0, x.1);
         }
-    by (Some due) is h later =
-        elim (fault_err (d.read + 1) n (line_says d due line (is_more rest)) (λ more. read_from more rest) w h) [
+    by (Some expected) is h later =
+        elim (fault_err (d.read + 1) n (line_says d expected line (is_more rest)) (λ more. read_from more rest) w h) [
           | inl x ↦ record {
             before = [];
             line = line;
@@ -225,10 +225,10 @@ from_err l d (line ∷ rest) n w some more e = by (due_of d) refl e (λ m r k h.
             reaches = refl;
             number = x.1;
             fails = subst (λ o. LineFails o d line rest w) (sym is)
-                (l.refused (form_of d due) (words_in line (is_more rest)) w (says_err d due line (is_more rest) w x.0));
+                (l.refused (form_of d expected) (words_in line (is_more rest)) w (says_err d expected line (is_more rest) w x.0));
           }
           | inr m ↦
-              let a = adds l d m.0 due line rest is m.1 in
+              let a = adds l d m.0 expected line rest is m.1 in
               let read = a.2 in
               let x = later m.0 (omega (arith, read)) a.1 m.2 in
               record {
@@ -248,9 +248,9 @@ from_err l d (line ∷ rest) n w some more e = by (due_of d) refl e (λ m r k h.
 add_read : (l : LineLaw) (d m : Draft) (line : List ℕ) (rest : List (List ℕ)) → Adds d line m → is_more rest ≡ true
     → read_from d (line ∷ rest) ≡ read_from m rest
 add_read l d m line rest a more =
-    ap (λ o. read_by o d line rest (λ x. read_from x rest)) a.is_due
+    ap (λ o. read_by o d line rest (λ x. read_from x rest)) a.is_expected
     ∙ (ap (λ r. or_fault (d.read + 1) r (λ x. read_from x rest))
-    (ap (line_says d a.due line) more ∙ ok_says d a.due line true a.said (l.allowed (form_of d a.due) (words_in line true) a.said
+    (ap (line_says d a.expected line) more ∙ ok_says d a.expected line true a.said (l.allowed (form_of d a.expected) (words_in line true) a.said
     a.allowed))
     ∙ ap (λ x. read_from x rest) (sym a.leads))
 
@@ -276,9 +276,9 @@ reach_number d e (line ∷ lines) r =
     one_more : (n m k rest : ℕ) → m ≡ n + 1 → k ≡ m + rest → k ≡ n + suc rest
     one_more n m k rest h g = omega (arith, h, g)
 
-whole_read : (d : Draft) (e : Entry) → due_of d ≡ None → d.entry ≡ Some e → read_from d ([] ∷ []) ≡ told (cert_from d e)
+whole_read : (d : Draft) (e : Entry) → expected_line d ≡ None → d.entry ≡ Some e → read_from d ([] ∷ []) ≡ told (cert_from d e)
 unfolding cert_before
-whole_read d e due is = ap (λ o. read_by o d [] [] (λ more. read_from more [])) due ∙ ap (cert_with d) is
+whole_read d e expected is = ap (λ o. read_by o d [] [] (λ more. read_from more [])) expected ∙ ap (cert_with d) is
 
 late_fault : (d : Draft) (line : List ℕ) (rest : List (List ℕ)) → (line ≢ []) ⊎ (rest ≢ []) → cert_before d line rest ≡ fault (d.read + 1)
     why.NoEnd
@@ -287,15 +287,15 @@ late_fault d [] [] h = absurd (elim h [ inl a ↦ a refl | inr b ↦ b refl ])
 late_fault d [] (piece ∷ rest) h = refl
 late_fault d (b ∷ bs) rest h = refl
 
-line_fault : (l : LineLaw) (d : Draft) (line : List ℕ) (rest : List (List ℕ)) (w : CertWhy) (o : Option Due) → due_of d ≡ o → LineFails o d
+line_fault : (l : LineLaw) (d : Draft) (line : List ℕ) (rest : List (List ℕ)) (w : CertWhy) (o : Option ExpectedLine) → expected_line d ≡ o → LineFails o d
     line rest w
     → read_from d (line ∷ rest) ≡ fault (d.read + 1) w
 line_fault l d line rest w None is h =
     ap (λ o. read_by o d line rest (λ more. read_from more rest)) is ∙ (late_fault d line rest h.0 ∙ ap (fault (d.read + 1)) (sym h.1))
-line_fault l d line rest w (Some due) is h =
+line_fault l d line rest w (Some expected) is h =
     ap (λ o. read_by o d line rest (λ more. read_from more rest)) is
     ∙ ap (λ r. or_fault (d.read + 1) r (λ more. read_from more rest))
-    (err_says d due line (is_more rest) w (l.faulty (form_of d due) (words_in line (is_more rest)) w h))
+    (err_says d expected line (is_more rest) w (l.faulty (form_of d expected) (words_in line (is_more rest)) w h))
 
 -- the head
 
@@ -415,7 +415,7 @@ fault_text l v text n w (inr h) =
     ap (read_pieces v) h.parts
     ∙ (head_read v (h.before ++ h.line ∷ h.rest) (more_after h.before h.line h.rest)
     ∙ (reach_read l (first_draft v) h.draft h.before h.line h.rest h.reaches
-    ∙ (line_fault l h.draft h.line h.rest w (due_of h.draft) refl h.fails ∙ ap (λ k. fault k w) same)))
+    ∙ (line_fault l h.draft h.line h.rest w (expected_line h.draft) refl h.fails ∙ ap (λ k. fault k w) same)))
 
 -- what is answered, by the relation
 

@@ -5,12 +5,12 @@ use Rattle.uz_schedule.specs.Limits.{ScheduleFits}
 use Rattle.uz_schedule.specs.WellFormed.{RestFits, EntryFits, PointFits, WellFormed, instances_of}
 use Rattle.uz_schedule.specs.declared.states.Entry.{Entry}
 use Rattle.uz_schedule.specs.declared.certificate.Cert.{Cert}
-use Rattle.uz_cert.specs.Drafts.{due_of}
+use Rattle.uz_cert.specs.Drafts.{expected_line}
 use Rattle.uz_cert.specs.Kept.{Kept}
 use Rattle.uz_cert.specs.Reading.{Fault, Gives, cert_from, cert_with, cert_before}
 use Rattle.uz_cert.specs.declared.errors.CertError.{CertError}
 use Rattle.uz_cert.specs.declared.draft.Draft.{Draft}
-use Rattle.uz_cert.proofs.DueLaws.{IsWhole, is_whole}
+use Rattle.uz_cert.proofs.ExpectedLineLaws.{IsWhole, is_whole}
 
 schedule_fits : (d : Draft) → Kept d → IsWhole d
     → ScheduleFits (record { kinds = d.kinds; lengths = d.lengths; lines = d.lines; fall = d.fall })
@@ -33,9 +33,9 @@ schedule_fits d k w =
     some_fall : (n : ℕ) → n ≢ 0 → 1 ≤ n
     some_fall n h = omega (arith, h)
 
-pub whole_fits : (d : Draft) (e : Entry) → Kept d → due_of d ≡ None → d.entry ≡ Some e → WellFormed (cert_from d e)
-whole_fits d e k due is =
-    let w = is_whole d k.begun due in
+pub whole_fits : (d : Draft) (e : Entry) → Kept d → expected_line d ≡ None → d.entry ≡ Some e → WellFormed (cert_from d e)
+whole_fits d e k expected is =
+    let w = is_whole d k.begun expected in
     let s = k.sizes in
     let lines : d.sizes.lines ≡ length d.lines = omega (arith, k.schedule.3.few, w.states.lines) in
     let points : d.sizes.points ≡ length d.points = omega (arith, k.states.2.few, w.points) in
@@ -68,9 +68,9 @@ whole_fits d e k due is =
     few_instances : (left sum : ℕ) → left + sum ≡ 16777216 → sum ≤ 16777216
     few_instances left sum h = omega (arith, h)
 
-by_entry : (d : Draft) (o : Option Entry) (c : Cert) → Kept d → due_of d ≡ None → d.entry ≡ o → cert_with d o ≡ Ok c → WellFormed c
-by_entry d None c k due is e = absurd cc
-by_entry d (Some x) c k due is e = subst WellFormed (ok_cert (cert_from d x) c e) (whole_fits d x k due is)
+by_entry : (d : Draft) (o : Option Entry) (c : Cert) → Kept d → expected_line d ≡ None → d.entry ≡ o → cert_with d o ≡ Ok c → WellFormed c
+by_entry d None c k expected is e = absurd cc
+by_entry d (Some x) c k expected is e = subst WellFormed (ok_cert (cert_from d x) c e) (whole_fits d x k expected is)
   where
     answer : Cert → Result Cert Fault
     answer x = Ok x
@@ -78,15 +78,15 @@ by_entry d (Some x) c k due is e = subst WellFormed (ok_cert (cert_from d x) c e
     ok_cert : (a b : Cert) → answer a ≡ answer b → a ≡ b
     ok_cert a b h = cc
 
-pub read_fits : (d : Draft) (line : List ℕ) (rest : List (List ℕ)) (c : Cert) → Kept d → due_of d ≡ None → cert_before d line rest ≡ Ok c
+pub read_fits : (d : Draft) (line : List ℕ) (rest : List (List ℕ)) (c : Cert) → Kept d → expected_line d ≡ None → cert_before d line rest ≡ Ok c
     → WellFormed c
 unfolding cert_before
-read_fits d [] [] c k due e = by_entry d d.entry c k due refl e
-read_fits d [] (piece ∷ rest) c k due e = absurd cc
-read_fits d (b ∷ bs) rest c k due e = absurd cc
+read_fits d [] [] c k expected e = by_entry d d.entry c k expected refl e
+read_fits d [] (piece ∷ rest) c k expected e = absurd cc
+read_fits d (b ∷ bs) rest c k expected e = absurd cc
 
 -- what is answered is well formed
-pub gives_fits : (d : Draft) (line : List ℕ) (rest : List (List ℕ)) (result : Result Cert CertError) → Kept d → due_of d ≡ None
+pub gives_fits : (d : Draft) (line : List ℕ) (rest : List (List ℕ)) (result : Result Cert CertError) → Kept d → expected_line d ≡ None
     → Gives result (cert_before d line rest) → IfOk result WellFormed
-gives_fits d line rest (Ok c) k due e = read_fits d line rest c k due e
-gives_fits d line rest (Err e) k due h = tt
+gives_fits d line rest (Ok c) k expected e = read_fits d line rest c k expected e
+gives_fits d line rest (Err e) k expected h = tt

@@ -14,7 +14,7 @@ use Rattle.uz_schedule.specs.declared.certificate.Cert.{Cert}
 use Rattle.uz_cert_writer.specs.Spelling.{kinds_then, runs_of, lines_of_certificate, spelling}
 use Rattle.uz_cert_lines.specs.declared.lines.Sizes.{Sizes}
 use Rattle.uz_cert_lines.specs.declared.lines.StackLine.{StackLine}
-use Rattle.uz_cert_lines.specs.declared.lines.Said.TheVariants as said
+use Rattle.uz_cert_lines.specs.declared.lines.ParsedLine.TheVariants as parsed
 use Rattle.uz_cert_lines.specs.declared.why.CertWhy.TheVariants as why
 use Rattle.uz_cert.specs.Drafts.{first_draft}
 use Rattle.uz_cert_lines.specs.Lines.{head_line, SizesFit}
@@ -28,8 +28,8 @@ use Rattle.uz_cert.specs.declared.draft.Draft.{Draft}
 use Rattle.uz_cert.proofs.KeptLaws.{first_kept, kept_next, same_cell}
 use Rattle.uz_cert.proofs.LineOrder.{due_size, due_irq, due_stack}
 use Rattle.uz_cert.proofs.Lines.{LineSpelling}
-use Rattle.uz_cert.proofs.Onward.{spelled, told, step, more_lines, cell_lines, cells_again, kinds_again, fall_lines}
-use Rattle.uz_cert.proofs.Onward.{fall_again, with_kinds, kinds_more}
+use Rattle.uz_cert.proofs.SpelledText.{spelled, told, step, more_lines, cell_lines, cells_again, kinds_again, fall_lines}
+use Rattle.uz_cert.proofs.SpelledText.{fall_again, with_kinds, kinds_more}
 use Rattle.uz_cert.proofs.Runs.{expand_runs, all_runs, runs_apart}
 use Rattle.uz_cert.proofs.NextLine.{pieces_plain, lines_back}
 use Rattle.uz_schedule.specs.declared.kinds.Response.{Response}
@@ -124,9 +124,9 @@ middle_again l v c w own kept =
 
 abbrev other_lines : Version → Cert → List (List ℕ)
 other_lines v c =
-    spelled v (first_draft v).head (said.Size (sizes_of c)) ∷ spelled v (first_draft v).head (said.Irq c.head.irq)
+    spelled v (first_draft v).head (parsed.Size (sizes_of c)) ∷ spelled v (first_draft v).head (parsed.Irq c.head.irq)
     ∷ spelled v (first_draft v).head
-    (said.Stack (stack_of c.head)) ∷ middle_lines v c
+    (parsed.Stack (stack_of c.head)) ∷ middle_lines v c
 
 lines_again : (l : LineSpelling) (v : Version) (c : Cert) → WellFormed c → IsOfVersion v c
     → read_from (first_draft v) (other_lines v c) ≡ told c
@@ -140,14 +140,14 @@ lines_again l v c w own =
     let is_size = due_size (first_draft v) refl in
     let is_irq = due_irq d_size refl in
     let is_stack = due_stack d_irq refl in
-    let kept_size = kept_next (first_draft v) (said.Size (sizes_of c)) (first_kept v) is_size (omega arith, sizes) in
-    let kept_irq = kept_next d_size (said.Irq c.head.irq) kept_size is_irq (omega arith) in
-    let kept_stack = kept_next d_irq (said.Stack (stack_of c.head)) kept_irq is_stack (omega arith, stack) in
-    let stack_on = spelled v (first_draft v).head (said.Stack (stack_of c.head)) ∷ middle_lines v c in
-    step l (first_draft v) (said.Size (sizes_of c)) (spelled v (first_draft v).head (said.Irq c.head.irq) ∷ stack_on) (first_kept v) is_size
+    let kept_size = kept_next (first_draft v) (parsed.Size (sizes_of c)) (first_kept v) is_size (omega arith, sizes) in
+    let kept_irq = kept_next d_size (parsed.Irq c.head.irq) kept_size is_irq (omega arith) in
+    let kept_stack = kept_next d_irq (parsed.Stack (stack_of c.head)) kept_irq is_stack (omega arith, stack) in
+    let stack_on = spelled v (first_draft v).head (parsed.Stack (stack_of c.head)) ∷ middle_lines v c in
+    step l (first_draft v) (parsed.Size (sizes_of c)) (spelled v (first_draft v).head (parsed.Irq c.head.irq) ∷ stack_on) (first_kept v) is_size
     (omega arith, sizes) refl
-    ∙ (step l d_size (said.Irq c.head.irq) stack_on kept_size is_irq (omega arith) refl
-    ∙ (step l d_irq (said.Stack (stack_of c.head)) (middle_lines v c) kept_irq is_stack (omega arith, stack) (middle_some v c)
+    ∙ (step l d_size (parsed.Irq c.head.irq) stack_on kept_size is_irq (omega arith) refl
+    ∙ (step l d_irq (parsed.Stack (stack_of c.head)) (middle_lines v c) kept_irq is_stack (omega arith, stack) (middle_some v c)
     ∙ middle_again l v c w own kept_stack))
 
 -- whole texts

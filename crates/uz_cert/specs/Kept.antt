@@ -13,14 +13,10 @@ use Rattle.uz_cert_lines.specs.Lines.{SizesFit, IsLengthIn, KindLineFits, IsPoin
 use Rattle.uz_cert_lines.specs.declared.lines.KindLine.{KindLine}
 use Rattle.uz_cert_lines.specs.declared.version.Version.{Version}
 use Rattle.uz_cert_lines.specs.declared.lines.Sizes.{Sizes}
-use Rattle.uz_cert_lines.specs.declared.lines.Said.{Said}
-use Rattle.uz_cert_lines.specs.declared.lines.Said.TheVariants as said
+use Rattle.uz_cert_lines.specs.declared.lines.ParsedLine.{ParsedLine}
+use Rattle.uz_cert_lines.specs.declared.lines.ParsedLine.TheVariants as parsed
+use Rattle.uz_cert_laws.specs.LineWords.{least_after}
 use Rattle.uz_cert.specs.declared.draft.Draft.{Draft}
-
--- the least number that keeps the order after these, which rise from this one
-abbrev pub least_after : ℕ → List ℕ → ℕ
-least_after least [] = least
-least_after least (x ∷ xs) = least_after (x + 1) xs
 
 -- the cells so far, of this many
 pub record CellsKept (h : Head) (count least : ℕ) : Type 0 where
@@ -173,16 +169,16 @@ pub record PointSaid (d : Draft) (p : Point) : Type 0 where
   pub own : IsPointIn d.version p
   pub instances : instances_of p ≤ d.left
 
-abbrev pub SaidFits : Draft → Said → Type 0
-SaidFits d (said.Size s) = IsOpening d × SizesFit s
-SaidFits d (said.Irq r) = IsOpening d
-SaidFits d (said.Stack s) = IsOpening d × StackFits (record d.head { lo = s.lo; hi = s.hi; main = s.main; handler = s.handler })
-SaidFits d (said.Cell c) = CellSaid d c
-SaidFits d (said.Kind k) = KindSaid d k
-SaidFits d (said.Event e) = EventSaid d e
-SaidFits d (said.Fall clock) = IsBody d × (1 ≤ clock) × (clock < clock_limit)
-SaidFits d (said.Run r) = RunSaid d r.count r.kind
-SaidFits d (said.Rest r) = RestSaid d r
-SaidFits d (said.Entry e) = EntrySaid d e
-SaidFits d (said.Point p) = PointSaid d p
-SaidFits d said.End = IsBody d
+abbrev pub SaidFits : Draft → ParsedLine → Type 0
+SaidFits d (parsed.Size s) = IsOpening d × SizesFit s
+SaidFits d (parsed.Irq r) = IsOpening d
+SaidFits d (parsed.Stack s) = IsOpening d × StackFits (record d.head { lo = s.lo; hi = s.hi; main = s.main; handler = s.handler })
+SaidFits d (parsed.Cell c) = CellSaid d c
+SaidFits d (parsed.Kind k) = KindSaid d k
+SaidFits d (parsed.Event e) = EventSaid d e
+SaidFits d (parsed.Fall clock) = IsBody d × (1 ≤ clock) × (clock < clock_limit)
+SaidFits d (parsed.Run r) = RunSaid d r.count r.kind
+SaidFits d (parsed.Rest r) = RestSaid d r
+SaidFits d (parsed.Entry e) = EntrySaid d e
+SaidFits d (parsed.Point p) = PointSaid d p
+SaidFits d parsed.End = IsBody d

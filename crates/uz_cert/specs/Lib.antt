@@ -1,5 +1,5 @@
 pub mod Drafts
 pub mod Kept
 pub mod Reading
-pub mod Texts
 pub mod SaidLines
+pub mod Texts

@@ -13,8 +13,8 @@ use Rattle.uz_cert_lines.specs.Lines.{head_line}
 use Rattle.uz_cert_lines.specs.declared.version.Version.{Version}
 use Rattle.uz_cert_lines.specs.declared.why.CertWhy.{CertWhy}
 use Rattle.uz_cert_lines.specs.declared.why.CertWhy.TheVariants as why
-use Rattle.uz_cert.specs.Drafts.{first_draft, due_of, form_of, draft_after}
-use Rattle.uz_cert.specs.declared.due.Due.{Due}
+use Rattle.uz_cert.specs.Drafts.{first_draft, expected_line, form_of, draft_after}
+use Rattle.uz_cert.specs.declared.expected_line.ExpectedLine.{ExpectedLine}
 use Rattle.uz_cert.specs.declared.draft.Draft.{Draft}
 use Rattle.uz_cert.specs.declared.errors.CertError.{CertError}
 
@@ -48,8 +48,8 @@ head_says version line ended =
     if bytes_eq line (head_line version) then (if ended then Ok (first_draft version) else Err why.NoEnd) else Err why.Head
 
 -- what the lines say with one more
-unfoldable pub line_says : Draft → Due → List ℕ → Bool → Result Draft CertWhy
-line_says d due line ended = reads (form_of d due) (words_in line ended) >>= (λ said. Ok (draft_after d said))
+unfoldable pub line_says : Draft → ExpectedLine → List ℕ → Bool → Result Draft CertWhy
+line_says d expected line ended = reads (form_of d expected) (words_in line ended) >>= (λ said. Ok (draft_after d said))
 
 abbrev pub or_fault : ℕ → Result Draft CertWhy → (Draft → Result Cert Fault) → Result Cert Fault
 or_fault n (Ok d) more = more d
@@ -75,14 +75,14 @@ cert_before d [] [] = cert_with d d.entry
 cert_before d (b ∷ bs) lines = Err (d.read + 1, why.NoEnd)
 cert_before d [] (line ∷ lines) = Err (d.read + 1, why.NoEnd)
 
-abbrev pub read_by : Option Due → Draft → List ℕ → List (List ℕ) → (Draft → Result Cert Fault) → Result Cert Fault
+abbrev pub read_by : Option ExpectedLine → Draft → List ℕ → List (List ℕ) → (Draft → Result Cert Fault) → Result Cert Fault
 read_by None d line lines more = cert_before d line lines
-read_by (Some due) d line lines more = or_fault (d.read + 1) (line_says d due line (is_more lines)) more
+read_by (Some expected) d line lines more = or_fault (d.read + 1) (line_says d expected line (is_more lines)) more
 
 -- the certificate of these pieces after what was read
 abbrev pub read_from : Draft → List (List ℕ) → Result Cert Fault
 read_from d [] = Err (d.read, why.NoEnd)
-read_from d (line ∷ lines) = read_by (due_of d) d line lines (λ more. read_from more lines)
+read_from d (line ∷ lines) = read_by (expected_line d) d line lines (λ more. read_from more lines)
 
 abbrev pub read_pieces : Version → List (List ℕ) → Result Cert Fault
 read_pieces version [] = Err (1, why.Head)

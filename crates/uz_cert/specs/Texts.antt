@@ -5,21 +5,21 @@ use Rattle.uz_schedule.specs.declared.states.Entry.{Entry}
 use Rattle.uz_schedule.specs.declared.certificate.Cert.{Cert}
 use Rattle.uz_cert_lines.specs.FirstFault.{Allows, HasFirstFault}
 use Rattle.uz_cert_lines.specs.Lines.{head_line, IsLengthIn, IsPointIn}
-use Rattle.uz_cert_lines.specs.declared.lines.Said.{Said}
+use Rattle.uz_cert_lines.specs.declared.lines.ParsedLine.{ParsedLine}
 use Rattle.uz_cert_lines.specs.declared.version.Version.{Version}
 use Rattle.uz_cert_lines.specs.declared.why.CertWhy.{CertWhy}
 use Rattle.uz_cert_lines.specs.declared.why.CertWhy.TheVariants as why
-use Rattle.uz_cert.specs.Drafts.{first_draft, due_of, form_of, draft_after}
+use Rattle.uz_cert.specs.Drafts.{first_draft, expected_line, form_of, draft_after}
 use Rattle.uz_cert.specs.Reading.{pieces_of, is_more, words_in, cert_from}
-use Rattle.uz_cert.specs.declared.due.Due.{Due}
+use Rattle.uz_cert.specs.declared.expected_line.ExpectedLine.{ExpectedLine}
 use Rattle.uz_cert.specs.declared.draft.Draft.{Draft}
 
 -- a line that is as is due after what was read, and what is read with it
 pub record Adds (d : Draft) (line : List ℕ) (e : Draft) : Type 0 where
-  pub due : Due
-  pub is_due : due_of d ≡ Some due
-  pub said : Said
-  pub allowed : Allows (form_of d due) (words_in line true) said
+  pub expected : ExpectedLine
+  pub is_expected : expected_line d ≡ Some expected
+  pub said : ParsedLine
+  pub allowed : Allows (form_of d expected) (words_in line true) said
   pub leads : e ≡ draft_after d said
 
 -- lines that are as is due, each ended by LF, lead from one draft to another
@@ -33,7 +33,7 @@ pub record SpellsCertificate (version : Version) (pieces : List (List ℕ)) (c :
   pub parts : pieces ≡ head_line version ∷ lines ++ [] ∷ []
   pub draft : Draft
   pub reaches : Reaches (first_draft version) lines draft
-  pub whole : due_of draft ≡ None
+  pub whole : expected_line draft ≡ None
   pub entry : Entry
   pub has_entry : draft.entry ≡ Some entry
   pub is : c ≡ cert_from draft entry
@@ -53,9 +53,9 @@ HeadFails version line rest w =
     ((line ≢ head_line version) × (w ≡ why.Head)) ⊎ ((line ≡ head_line version) × (rest ≡ []) × (w ≡ why.NoEnd))
 
 -- what is wrong with a later line: it has a first fault as the line that is due, or none is due any more
-abbrev pub LineFails : Option Due → Draft → List ℕ → List (List ℕ) → CertWhy → Type 0
+abbrev pub LineFails : Option ExpectedLine → Draft → List ℕ → List (List ℕ) → CertWhy → Type 0
 LineFails None d line rest w = ((line ≢ []) ⊎ (rest ≢ [])) × (w ≡ why.NoEnd)
-LineFails (Some due) d line rest w = HasFirstFault (form_of d due) (words_in line (is_more rest)) w
+LineFails (Some expected) d line rest w = HasFirstFault (form_of d expected) (words_in line (is_more rest)) w
 
 -- the first line has this fault
 pub record FailsAtHead (version : Version) (pieces : List (List ℕ)) (n : ℕ) (w : CertWhy) : Type 0 where
@@ -74,7 +74,7 @@ pub record FailsLater (version : Version) (pieces : List (List ℕ)) (n : ℕ) (
   pub draft : Draft
   pub reaches : Reaches (first_draft version) before draft
   pub number : n ≡ length before + 2
-  pub fails : LineFails (due_of draft) draft line rest w
+  pub fails : LineFails (expected_line draft) draft line rest w
 
 -- the first fault of a text that is to be of a version, and the number of its line, counted from 1
 abbrev pub IsFirstFault : Version → List ℕ → ℕ → CertWhy → Type 0

@@ -4,19 +4,19 @@ ghost use Rattle.std.specs.Prelude.{◌≡◌, ◌⊎◌, ◌<◌, ◌≤◌, �
 ghost use Rattle.uz_schedule.specs.WellFormed.{instances_of as instances_of_point};
 ghost use Rattle.uz_cert_lines.specs.Forms.{reads};
 ghost use Rattle.uz_cert_lines.specs.Lines.{rest_form};
-ghost use Rattle.uz_cert.specs.Drafts.{first_draft, due_of, due_of_schedule, due_of_states, form_of, kind_closed};
+ghost use Rattle.uz_cert.specs.Drafts.{first_draft, expected_line, expected_in_schedule, expected_in_states, form_of, kind_closed};
 ghost use Rattle.uz_cert.specs.Drafts.{with_event, with_said, draft_after};
 ghost use Rattle.uz_cert.specs.Kept.{Kept, SaidFits};
 ghost use Rattle.uz_cert.specs.Reading.{IsMemory, line_says};
 
-use crate::due::Due;
 use crate::errors::CertError;
+use crate::expected_line::ExpectedLine;
 use crate::line_laws::said_lines;
 use arrayvec::ArrayVec;
 use std::alloc::{AllocError, Global};
 use std::mem;
 use uz_cert_lines::{
-    CertWhy, KindLine, Run, Said, Sizes, StackLine, Version, Words, cell_line, end_line,
+    CertWhy, KindLine, ParsedLine, Run, Sizes, StackLine, Version, Words, cell_line, end_line,
     entry_line, event_line, fall_line, irq_line, kind_line, point_line, rest_line, run_line,
     size_line, stack_line,
 };
@@ -140,59 +140,59 @@ impl Draft {
     }
 
     /// The kind of line that is due after the runs.
-    fn due_of_states(&self) -> Option<Due>
-        ensures { result ≡ due_of_states self.now }
+    fn expected_in_states(&self) -> Option<ExpectedLine>
+        ensures { result ≡ expected_in_states self.now }
     {
         if self.rests.len() < self.sizes.rests as usize {
-            Some(Due::Rest)
+            Some(ExpectedLine::Rest)
         } else if self.entry.is_none() {
-            Some(Due::Entry)
+            Some(ExpectedLine::Entry)
         } else if self.points.len() < self.sizes.points as usize {
-            Some(Due::Point)
+            Some(ExpectedLine::Point)
         } else if self.ended {
             None
         } else {
-            Some(Due::End)
+            Some(ExpectedLine::End)
         }
     }
 
     /// The kind of line that is due after the cells.
-    fn due_of_schedule(&self) -> Option<Due>
-        ensures { result ≡ due_of_schedule self.now }
+    fn expected_in_schedule(&self) -> Option<ExpectedLine>
+        ensures { result ≡ expected_in_schedule self.now }
     {
         if 0 < self.owed {
-            Some(Due::Event)
+            Some(ExpectedLine::Event)
         } else if self.kinds.len() < self.sizes.kinds as usize {
-            Some(Due::Kind)
+            Some(ExpectedLine::Kind)
         } else if self.fall == 0 {
-            Some(Due::Fall)
+            Some(ExpectedLine::Fall)
         } else if self.lines.len() < self.sizes.lines as usize {
-            Some(Due::Run)
+            Some(ExpectedLine::Run)
         } else {
-            self.due_of_states()
+            self.expected_in_states()
         }
     }
 
     /// The kind of line that is due, or None exactly after `end`.
-    #[tactic(auto, unfolding(crate::specs::Drafts::due_of))]
-    pub fn due(&self) -> Option<Due>
-        ensures { result ≡ due_of self.now }
+    #[tactic(auto, unfolding(crate::specs::Drafts::expected_line))]
+    pub fn expected_line(&self) -> Option<ExpectedLine>
+        ensures { result ≡ expected_line self.now }
     {
         if self.read == 1 {
-            Some(Due::Size)
+            Some(ExpectedLine::Size)
         } else if self.read == 2 {
-            Some(Due::Irq)
+            Some(ExpectedLine::Irq)
         } else if self.read == 3 {
-            Some(Due::Stack)
+            Some(ExpectedLine::Stack)
         } else if self.head.cells.len() < self.sizes.cells as usize {
-            Some(Due::Cell)
+            Some(ExpectedLine::Cell)
         } else {
-            self.due_of_schedule()
+            self.expected_in_schedule()
         }
     }
 
     /// What the line of a rest says.
-    fn rest(&self, words: &mut Words) -> Result<Said, CertWhy>
+    fn rest(&self, words: &mut Words) -> Result<ParsedLine, CertWhy>
         requires { Kept self.now }
         ensures { result ≡ reads (rest_form self.now.sizes.lines self.now.sizes.points self.now.head.cells.items
             self.now.rest_least) words.old }
@@ -209,26 +209,26 @@ impl Draft {
 
     /// What a line says, where this kind of line is due.
     #[tactic(auto, unfolding(crate::specs::Drafts::form_of))]
-    fn line(&self, due: Due, words: &mut Words) -> Result<Said, CertWhy>
+    fn line(&self, expected: ExpectedLine, words: &mut Words) -> Result<ParsedLine, CertWhy>
         requires { Kept self.now }
-        ensures { result ≡ reads (form_of self.now due) words.old }
+        ensures { result ≡ reads (form_of self.now expected) words.old }
     {
         let sizes = self.sizes;
-        match due {
-            Due::Size => size_line(words),
-            Due::Irq => irq_line(words),
-            Due::Stack => stack_line(words),
-            Due::Cell => cell_line(self.head.lo, self.head.hi, self.cell_least, words),
-            Due::Kind => kind_line(self.version, words),
-            Due::Event => event_line(self.clocks, self.event_least, words),
-            Due::Fall => fall_line(words),
-            Due::Run => {
+        match expected {
+            ExpectedLine::Size => size_line(words),
+            ExpectedLine::Irq => irq_line(words),
+            ExpectedLine::Stack => stack_line(words),
+            ExpectedLine::Cell => cell_line(self.head.lo, self.head.hi, self.cell_least, words),
+            ExpectedLine::Kind => kind_line(self.version, words),
+            ExpectedLine::Event => event_line(self.clocks, self.event_least, words),
+            ExpectedLine::Fall => fall_line(words),
+            ExpectedLine::Run => {
                 let left = sizes.lines - self.lines.len() as u32;
                 run_line(sizes.kinds, left, self.run_kind, words)
             }
-            Due::Rest => self.rest(words),
-            Due::Entry => entry_line(&self.head, sizes.lines, sizes.points, words),
-            Due::Point => point_line(
+            ExpectedLine::Rest => self.rest(words),
+            ExpectedLine::Entry => entry_line(&self.head, sizes.lines, sizes.points, words),
+            ExpectedLine::Point => point_line(
                 self.version,
                 &self.head,
                 sizes.lines,
@@ -236,7 +236,7 @@ impl Draft {
                 self.left,
                 words,
             ),
-            Due::End => end_line(words),
+            ExpectedLine::End => end_line(words),
         }
     }
 
@@ -255,7 +255,7 @@ impl Draft {
     }
 
     fn put_stack(&mut self, stack: StackLine)
-        ensures { self.new ≡ with_said self.old (Said.Stack stack) }
+        ensures { self.new ≡ with_said self.old (ParsedLine.Stack stack) }
     {
         self.head.lo = stack.lo;
         self.head.hi = stack.hi;
@@ -265,14 +265,14 @@ impl Draft {
 
     fn put_cell(&mut self, cell: Cell)
         requires { length self.old.head.cells.items < 16 }
-        ensures { self.new ≡ with_said self.old (Said.Cell cell) }
+        ensures { self.new ≡ with_said self.old (ParsedLine.Cell cell) }
     {
         self.cell_least = u32::from(cell.at) + 1;
         self.head.cells.push(cell);
     }
 
     fn put_kind(&mut self, kind: KindLine)
-        ensures { self.new ≡ with_said self.old (Said.Kind kind) }
+        ensures { self.new ≡ with_said self.old (ParsedLine.Kind kind) }
     {
         self.owed = kind.events;
         self.clocks = kind.clocks;
@@ -291,7 +291,7 @@ impl Draft {
 
     fn put_run(&mut self, run: Run) -> Result<(), AllocError>
         requires { run.kind < 2 ^ 16 }
-        ensures { OnOk result (self.new ≡ with_said self.old (Said.Run run)) }
+        ensures { OnOk result (self.new ≡ with_said self.old (ParsedLine.Run run)) }
     {
         for _line in 0..run.count {
             self.lines.push(run.kind as u16)?;
@@ -301,7 +301,7 @@ impl Draft {
     }
 
     fn put_rest(&mut self, rest: Rest) -> Result<(), AllocError>
-        ensures { OnOk result (self.new ≡ with_said self.old (Said.Rest rest)) }
+        ensures { OnOk result (self.new ≡ with_said self.old (ParsedLine.Rest rest)) }
     {
         self.rest_least = u32::from(rest.line) + 1;
         self.rests.push(rest)?;
@@ -311,7 +311,7 @@ impl Draft {
     fn put_point(&mut self, point: Point) -> Result<(), AllocError>
         requires order { (point.l0 ≤ point.l1) × (point.c0 ≤ point.c1) }
         requires left { instances_of_point point ≤ self.old.left }
-        ensures { OnOk result (self.new ≡ with_said self.old (Said.Point point)) }
+        ensures { OnOk result (self.new ≡ with_said self.old (ParsedLine.Point point)) }
     {
         self.left -= instances_of(&point);
         self.points.push(point)?;
@@ -319,24 +319,24 @@ impl Draft {
     }
 
     /// Adds what a line says.
-    fn put(&mut self, alloc: Global, said: Said) -> Result<(), AllocError>
+    fn put(&mut self, alloc: Global, said: ParsedLine) -> Result<(), AllocError>
         requires kept { Kept self.old }
         requires fits { SaidFits self.old said }
         ensures { OnOk result (self.new ≡ with_said self.old said) }
     {
         match said {
-            Said::Size(sizes) => self.sizes = sizes,
-            Said::Irq(response) => self.head.irq = response,
-            Said::Stack(stack) => self.put_stack(stack),
-            Said::Cell(cell) => self.put_cell(cell),
-            Said::Kind(kind) => self.put_kind(kind),
-            Said::Event(event) => self.put_event(alloc, event)?,
-            Said::Fall(clock) => self.fall = clock,
-            Said::Run(run) => self.put_run(run)?,
-            Said::Rest(rest) => self.put_rest(rest)?,
-            Said::Entry(entry) => self.entry = Some(entry),
-            Said::Point(point) => self.put_point(point)?,
-            Said::End => self.ended = true,
+            ParsedLine::Size(sizes) => self.sizes = sizes,
+            ParsedLine::Irq(response) => self.head.irq = response,
+            ParsedLine::Stack(stack) => self.put_stack(stack),
+            ParsedLine::Cell(cell) => self.put_cell(cell),
+            ParsedLine::Kind(kind) => self.put_kind(kind),
+            ParsedLine::Event(event) => self.put_event(alloc, event)?,
+            ParsedLine::Fall(clock) => self.fall = clock,
+            ParsedLine::Run(run) => self.put_run(run)?,
+            ParsedLine::Rest(rest) => self.put_rest(rest)?,
+            ParsedLine::Entry(entry) => self.entry = Some(entry),
+            ParsedLine::Point(point) => self.put_point(point)?,
+            ParsedLine::End => self.ended = true,
         }
         Ok(())
     }
@@ -346,22 +346,22 @@ impl Draft {
     pub fn take(
         &mut self,
         alloc: Global,
-        due: Due,
+        expected: ExpectedLine,
         line: &[u8],
         ended: bool,
     ) -> Result<(), CertError>
         requires kept { Kept self.old }
-        requires due { due_of self.old ≡ Some due }
+        requires expected { expected_line self.old ≡ Some expected }
         requires few { self.old.read < 2 ^ 32 - 1 }
-        ensures ok { OnOk result (line_says self.old due line.now ended ≡ Ok self.new) }
+        ensures ok { OnOk result (line_says self.old expected line.now ended ≡ Ok self.new) }
         ensures kept { OnOk result (Kept self.new) }
         ensures read { OnOk result (self.new.read ≡ self.old.read + 1) }
         ensures err { IfErr result (λ e. IsMemory e ⊎ ((e.line ≡ self.old.read + 1)
-            × (line_says self.old due line.now ended ≡ Err e.why))) }
+            × (line_says self.old expected line.now ended ≡ Err e.why))) }
     {
         said_lines();
         let number = self.read + 1;
-        match self.line(due, &mut Words::new(line, ended)) {
+        match self.line(expected, &mut Words::new(line, ended)) {
             Ok(said) => {
                 self.put(alloc, said)?;
                 self.read = number;

@@ -3,15 +3,15 @@
 #![tactic(auto)]
 
 mod draft;
-mod due;
 mod errors;
+mod expected_line;
 mod line_laws;
 mod reading;
 mod text_laws;
 
 pub use draft::Draft;
-pub use due::Due;
 pub use errors::CertError;
+pub use expected_line::ExpectedLine;
 pub use reading::{read_cert, read_cert_1, text_or_fault};
 pub use text_laws::text_is_unique;
 pub use uz_cert_lines::{CertWhy, Version};

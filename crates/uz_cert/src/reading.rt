@@ -103,8 +103,8 @@ fn read_pieces(alloc: Global, version: Version, text: Option<&[u8]>) -> Result<C
     let mut left = text;
     while let Some(text) = left {
         let (line, rest) = cut_line(text);
-        match draft.due() {
-            Some(due) => match draft.take(alloc, due, line, is_left(rest)) {
+        match draft.expected_line() {
+            Some(expected) => match draft.take(alloc, expected, line, is_left(rest)) {
                 Ok(()) => left = rest,
                 Err(error) => return Err(error),
             },

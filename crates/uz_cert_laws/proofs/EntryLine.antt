@@ -1,46 +1,35 @@
 -- The line of an entry.
-use Rattle.std.proofs.Common.{◌≡◌, ℕ, zero, suc, ◌-◌, ◌<◌, ◌≤◌, Bool, true, false, cond, ◌&&◌, eqb, List, [], ◌∷◌, ◌++◌, map, length, decimal}
-use Rattle.std.proofs.Common.{codes, lit<, lit≤, refl, sym, ◌∙◌, ap, subst, append-nil, arith}
-use Rattle.std.specs.Prelude.{All, Ok}
+use Rattle.uz_cert_laws.proofs.Common.{◌≡◌, ℕ, zero, suc, ◌-◌, ◌<◌, ◌≤◌, Bool, true, false, cond, ◌&&◌, eqb, List, [], ◌∷◌, ◌++◌, map}
+use Rattle.uz_cert_laws.proofs.Common.{length, decimal, codes, lit<, lit≤, refl, sym, ◌∙◌, ap, subst, append-nil, arith, Ok, All-nil}
+use Rattle.uz_cert_laws.proofs.Common.{All-cons, All-head, All-tail, Ends, clock_limit, RangeFits, CellFits, BitFits}
+use Rattle.uz_cert_laws.proofs.Common.{Kind, Main, Handler, Alone, Cell, Head, Fact, PairFact, Words, choice_of, range_fact, is_handler}
+use Rattle.uz_cert_laws.proofs.Common.{bytes_forms, LineForm, number, items, reads, within, one_of, none_in_main, span_of_fact, FactForms}
+use Rattle.uz_cert_laws.proofs.Common.{Facts, ParsedLine, kind_word, register_items, pair_items, flag_items, slot_items, cell_items}
+use Rattle.uz_cert_laws.proofs.Common.{listed_items, successor_items, named_items, NamedValues, named_of, usual_facts}
+use Rattle.std.specs.Prelude.{All}
 use Rattle.std.proofs.lemmas.List.{length-map}
-use Rattle.std.proofs.lemmas.List.Elements.{All-nil, All-cons, All-head, All-tail}
-use Rattle.uz_schedule.specs.Ends.{Ends, whole_byte}
-use Rattle.uz_schedule.specs.Schedule.{scanline}
 use Rattle.uz_schedule.specs.Tracked.{tracked, depth_of}
-use Rattle.uz_schedule.specs.Limits.{clock_limit}
-use Rattle.uz_schedule.specs.WellFormed.{RangeFits, CellFits, SpansFit, BitFits, EntryKindFits, EntryFactsFit, EntryFits}
-use Rattle.uz_schedule.specs.declared.kinds.Kind.{Kind}
-use Rattle.uz_schedule.specs.declared.kinds.Kind.TheVariants.{Main, Handler, Alone}
-use Rattle.uz_schedule.specs.declared.header.Cell.{Cell}
-use Rattle.uz_schedule.specs.declared.header.Head.{Head}
-use Rattle.uz_schedule.specs.declared.facts.Fact.{Fact}
-use Rattle.uz_schedule.specs.declared.facts.PairFact.{PairFact}
+use Rattle.uz_schedule.specs.WellFormed.{SpansFit, EntryKindFits, EntryFactsFit, EntryFits}
 use Rattle.uz_schedule.specs.declared.facts.PairFact.TheVariants.{Any as AnyPair}
 use Rattle.uz_schedule.specs.declared.states.Entry.{Entry}
-use Rattle.uz_cert_lines.specs.Grammar.{Words, choice_of}
-use Rattle.uz_cert_lines.specs.Defaults.{range_fact}
-use Rattle.uz_cert_lines.specs.Items.{is_handler, bytes_forms}
-use Rattle.uz_cert_lines.specs.Forms.{LineForm, number, items, reads}
-use Rattle.uz_cert_lines.specs.Lines.{within, one_of, none_in_main, shape_of, span_of_fact, entry_of, entry_kind, entry_form}
-use Rattle.uz_cert_lines.specs.declared.values.FactForms.{FactForms}
-use Rattle.uz_cert_lines.specs.declared.items.Facts.{Facts}
-use Rattle.uz_cert_lines.specs.declared.lines.Said.{Said}
-use Rattle.uz_cert_lines.specs.declared.lines.Said.TheVariants as said
-use Rattle.uz_cert_writer.specs.Spelling.{kind_word, range_facts, register_items, pair_items, flag_items, slot_items, cell_items}
-use Rattle.uz_cert_writer.specs.Spelling.{top_items, temp_items, successor_items, entry_items, entry_words}
-use Rattle.uz_cert_laws.specs.Said.{line, PlacesAre}
-use Rattle.uz_cert_laws.proofs.Tests.{fine, true_not}
+use Rattle.uz_cert_lines.specs.Lines.{shape_of, entry_of, entry_kind, entry_form}
+use Rattle.uz_cert_lines.specs.declared.lines.ParsedLine.TheVariants as parsed
+use Rattle.uz_cert_writer.specs.Spelling.{range_facts}
+use Rattle.uz_cert_writer.specs.Spelling.{entry_items, entry_words}
+use Rattle.uz_cert_laws.proofs.Named.{say_usuals, usuals, left_out}
+use Rattle.uz_cert_laws.specs.LineWords.{line, PlacesAre}
+use Rattle.uz_cert_laws.proofs.Tests.{both_of, fine, true_not}
 use Rattle.uz_cert_laws.specs.Spells.{word_at, Parts, says, spells}
-use Rattle.uz_cert_laws.proofs.OnlyItems.{ShapeFits}
-use Rattle.uz_cert_laws.proofs.AgainItems.{FactsFit}
+use Rattle.uz_cert_laws.proofs.ReadItems.{ShapeFits}
+use Rattle.uz_cert_laws.proofs.SpelledItems.{FactsFit}
 use Rattle.uz_cert_laws.proofs.Spans.{bytes_of}
 use Rattle.uz_cert_laws.proofs.Steps.{is_within as within_so, one_so}
 use Rattle.uz_cert_laws.proofs.FormLaws.{Fit, SaysFacts, IsReadable, form_again, form_only}
 use Rattle.uz_cert_laws.proofs.Facts.{FactIn, BitIn}
 use Rattle.uz_cert_laws.proofs.Options.{each_length, each_other}
 use Rattle.uz_cert_laws.proofs.Spelled.{registers, numbered_cells}
-use Rattle.uz_cert_laws.proofs.Taken.{cell_form}
-use Rattle.uz_cert_laws.specs.Spells.{letters_of_pairs, letters_of_flags, timer_and_next, spelled}
+use Rattle.uz_cert_laws.proofs.ItemForms.{cell_form}
+use Rattle.uz_cert_laws.specs.Spells.{letters_of_pairs, letters_of_flags, listed_and_next, spelled}
 use Rattle.uz_cert_laws.proofs.Fitting.{each_of_all, all_of_each, all_other, all_map, map_back, bit_in, bit_out, range_in, SaysRange}
 use Rattle.uz_cert_laws.proofs.Fitting.{says_range, span_back, entry_cell, entry_form_is, spans_in, spans_out, under_none, none_under}
 use Rattle.uz_cert_laws.proofs.Fitting.{none_small}
@@ -51,7 +40,7 @@ abbrev entry_after : Head → ℕ → ℕ → Kind → LineForm
 entry_after h lines points kind =
     number (one_of points) (λ id. number (within 0 32768) (λ pc.
     number (within 0 (none_in_main kind lines)) (λ line. number (within 0 (none_in_main kind clock_limit)) (λ clock.
-    items (shape_of h kind true points) h.cells.items (λ f. said.Entry (entry_of kind id pc line clock f))))))
+    items (shape_of h kind true points) h.cells.items (λ f. parsed.Entry (entry_of kind id pc line clock f))))))
 
 pub ranges_of : (h : Head) (cells : List Cell) → All (CellFits h) cells → All (λ c. RangeFits 255 c.range) cells
 ranges_of h [] a = All-nil (λ c. RangeFits 255 c.range)
@@ -74,17 +63,12 @@ at_begin Alone e h f = absurd cc
 
 -- what an entry says by its items
 abbrev facts_of : Entry → Facts
-facts_of e = record {
-  least = 0;
-  after = 0;
+facts_of e = record usual_facts {
   regs = range_facts e.regs;
   pairs = AnyPair ∷ AnyPair ∷ AnyPair ∷ [];
   flags = e.flags;
   stack = record { items = range_facts e.stack.items };
   cells = record { items = range_facts e.cells.items };
-  top = scanline - 1;
-  temp = whole_byte;
-  next = record { items = [] };
 }
 
 entry_sayable : (h : Head) (lines points : ℕ) (e : Entry) → EntryFactsFit h e
@@ -103,9 +87,7 @@ entry_sayable h lines points e f =
           (numbered_cells e.kind 0 h.cells.items) (range_facts e.cells.items)
           (λ p x i. subst (λ (g : FactForms). FactIn g x) (sym (entry_form_is shape p.1 refl)) i)
           (spans_in e.kind 0 h.cells.items e.cells.items f.cells.ranges f.cells.within);
-      top_fit = refl;
-      temp_fit = record { order = lit≤ tt; high = lit≤ tt };
-      timed_fit = λ _. (refl, refl);
+      listed_fit = say_usuals named_items shape refl;
       next_fit = (refl, All-nil (λ id. id < points), lit≤ tt, λ _. refl);
       plain_fit = λ _. refl;
       meant = λ one. absurd (true_not false one refl);
@@ -162,7 +144,7 @@ entry_back h e f =
         ap (λ (x : List Ends). make x ss cs) p ∙ ap (λ (x : List Ends). make e.regs x cs) q
         ∙ ap (λ (x : List Ends). make e.regs e.stack.items x) r
 
-entry_says : (kind : Kind) (id pc line clock : ℕ) → SaysFacts (λ f. said.Entry (entry_of kind id pc line clock f))
+entry_says : (kind : Kind) (id pc line clock : ℕ) → SaysFacts (λ f. parsed.Entry (entry_of kind id pc line clock f))
 unfolding entry_of
 entry_says kind id pc line clock f least after = refl
 
@@ -172,20 +154,9 @@ after_sound h lines points kind a n =
     let few : lines ≤ 525 = a.lines_few in
     let many : points ≤ 524288 = a.points_few in
     let lines_small = none_small kind lines (omega arith) in
-    let clocks_small = none_small kind clock_limit (lit≤ tt) in (
-      omega arith,
-      λ id i. (
-        lit≤ tt,
-        λ pc j. (
-          omega (arith, lines_small),
-          λ line k. (
-            omega (arith, clocks_small),
-            λ clock o.
-                (shape_fits h lines points kind true a n, entry_says kind id pc line clock),
-          ),
-        ),
-      ),
-    )
+    let clocks_small = none_small kind clock_limit (lit≤ tt) in
+    both_of (omega arith) (λ id i. both_of (lit≤ tt) (λ pc j. both_of (omega (arith, lines_small)) (λ line k.
+    both_of (omega (arith, clocks_small)) (λ clock o. (shape_fits h lines points kind true a n, entry_says kind id pc line clock)))))
 
 abbrev entry_kinds : List (List ℕ)
 entry_kinds = codes "main" ∷ codes "alone" ∷ []
@@ -210,7 +181,7 @@ entry_so h lines points Handler e q a k f = absurd k
 entry_so h lines points Alone e q a k f = form_again (entry_form h lines points) (1, q) (entry_sound h lines points a) (refl, f)
 
 pub entry_again : (h : Head) (lines points : ℕ) (e : Entry) → PlacesAre h lines points → EntryFits h lines points e
-    → reads (entry_form h lines points) (line (entry_words h.cells.items e)) ≡ Ok (said.Entry e)
+    → reads (entry_form h lines points) (line (entry_words h.cells.items e)) ≡ Ok (parsed.Entry e)
 entry_again h lines points e a f =
     let few : lines ≤ 525 = a.lines_few in
     let many : points ≤ 524288 = a.points_few in
@@ -220,22 +191,13 @@ entry_again h lines points e a f =
     ap (λ ws. reads (entry_form h lines points)
     (line (codes "entry" ∷ kind_word kind ∷ decimal e.id ∷ decimal e.pc ∷ decimal e.line ∷ decimal e.clock ∷ ws)))
     (entry_items_are h.cells.items e)
-    ∙ entry_so h lines points kind e (e.id, (e.pc, (e.line, (e.clock, facts_of e)))) a f.kind (
-      one_so points e.id (omega arith) f.id,
-      (
-        within_so 0 32768 e.pc (lit≤ tt) (omega arith) f.pc,
-        (
-          within_so 0 (none_in_main kind lines) e.line lines_small (omega arith)
-              (under_none kind lines e.line (λ m. (at_begin kind e f.kind m).0) f.line),
-          (
-            within_so 0 (none_in_main kind clock_limit) e.clock clocks_small (omega arith)
-                (under_none kind clock_limit e.clock (λ m. (at_begin kind e f.kind m).1) f.clock),
-            entry_sayable h lines points e f.facts,
-          ),
-        ),
-      ),
-    )
-    ∙ ap (λ (x : Entry). fine (said.Entry x)) (entry_back h e f.facts)
+    ∙ entry_so h lines points kind e (e.id, (e.pc, (e.line, (e.clock, facts_of e)))) a f.kind
+    (both_of (one_so points e.id (omega arith) f.id) (both_of (within_so 0 32768 e.pc (lit≤ tt) (omega arith) f.pc)
+    (both_of (within_so 0 (none_in_main kind lines) e.line lines_small (omega arith)
+    (under_none kind lines e.line (λ m. (at_begin kind e f.kind m).0) f.line))
+    (both_of (within_so 0 (none_in_main kind clock_limit) e.clock clocks_small (omega arith)
+    (under_none kind clock_limit e.clock (λ m. (at_begin kind e f.kind m).1) f.clock)) (entry_sayable h lines points e f.facts)))))
+    ∙ ap (λ (x : Entry). fine (parsed.Entry x)) (entry_back h e f.facts)
 
 -- only
 
@@ -264,8 +226,7 @@ record FactsSaid (h : Head) (kind : Kind) (points : ℕ) (f : Facts) : Type 0 wh
   pub cells_fit : SpansFit (tracked h kind) (map span_of_fact f.cells.items)
   pub pairs : f.pairs ≡ AnyPair ∷ AnyPair ∷ AnyPair ∷ []
   pub next : f.next.items ≡ []
-  pub top : f.top ≡ scanline - 1
-  pub temp : f.temp ≡ whole_byte
+  pub listed : named_of f ≡ usuals named_items
 
 facts_said : (h : Head) (kind : Kind) (points : ℕ) (f : Facts) → FactsFit (shape_of h kind true points) h.cells.items f → FactsSaid h kind
     points f
@@ -290,8 +251,7 @@ facts_said h kind points f r =
       cells_fit = record { ranges = cells.0; within = cells.1 };
       pairs = r.plain_fit refl;
       next = r.next_fit.3 refl;
-      top = (r.timed_fit refl).0;
-      temp = (r.timed_fit refl).1;
+      listed = left_out named_items shape (named_of f) refl r.listed_fit;
     }
   where
     no_old : (b : Bool) → (b && false) ≡ false
@@ -313,11 +273,10 @@ unfolding entry_of
 spelled_entry h kind points id pc line clock f s =
     let cells = h.cells.items in
     ap (λ (ps : List PairFact). register_items kind 0 f.regs ++ (pair_items letters_of_pairs ps ++ (flag_items kind letters_of_flags f.flags
-    ++ (slot_items f.stack.items ++ (cell_items kind 0 cells f.cells.items ++ timer_and_next f))))) s.pairs
+    ++ (slot_items f.stack.items ++ (cell_items kind 0 cells f.cells.items ++ listed_and_next f))))) s.pairs
     ∙ ap (λ (ws : List (List ℕ)). register_items kind 0 f.regs ++ (flag_items kind letters_of_flags f.flags
     ++ (slot_items f.stack.items ++ (cell_items kind 0 cells f.cells.items ++ ws))))
-    (ap (λ n. top_items n ++ (temp_items f.temp ++ successor_items f.next.items)) s.top
-    ∙ ap (λ (e : Ends). temp_items e ++ successor_items f.next.items) s.temp ∙ ap successor_items s.next)
+    (ap (λ (v : NamedValues named_items). listed_items named_items v ++ successor_items f.next.items) s.listed ∙ ap successor_items s.next)
     ∙ ap (λ (ws : List (List ℕ)). register_items kind 0 f.regs
     ++ (flag_items kind letters_of_flags f.flags ++ (slot_items f.stack.items ++ ws)))
     (append-nil (cell_items kind 0 cells f.cells.items))
@@ -359,21 +318,21 @@ entry_fits h lines points kind id pc line clock f s n i p l c =
       facts = entry_facts_fit h kind points id pc line clock f s;
     }
 
-pub entry_only : (h : Head) (lines points : ℕ) (words : Words) (says : Said) → PlacesAre h lines points → 1 ≤ lines
+pub entry_only : (h : Head) (lines points : ℕ) (words : Words) (says : ParsedLine) → PlacesAre h lines points → 1 ≤ lines
     → reads (entry_form h lines points) words ≡ Ok says
-    → (e : Entry) × (says ≡ said.Entry e) × (words ≡ line (entry_words h.cells.items e)) × EntryFits h lines points e
+    → (e : Entry) × (says ≡ parsed.Entry e) × (words ≡ line (entry_words h.cells.items e)) × EntryFits h lines points e
 unfolding entry_of
 entry_only h lines points words says a some e =
     let r = form_only (entry_form h lines points) words says (entry_sound h lines points a) e in
     made r.0.0 r.0.1.0 r.0.1.1.0 r.0.1.1.1.0 r.0.1.1.1.1.0 r.0.1.1.1.1.1 r.1 r.2 r.3.0 r.3.1.0.below r.3.1.1.0.below r.3.1.1.1.0.below
     r.3.1.1.1.1.0.below r.3.1.1.1.1.1
   where
-    made : (n id pc at clock : ℕ) (f : Facts) → says ≡ said.Entry (entry_of (entry_kind n) id pc at clock f)
+    made : (n id pc at clock : ℕ) (f : Facts) → says ≡ parsed.Entry (entry_of (entry_kind n) id pc at clock f)
         → words ≡ line (codes "entry" ∷ word_at entry_kinds n ∷ decimal id ∷ decimal pc ∷ decimal at ∷ decimal clock
         ∷ spelled (entry_kind n) h.cells.items f)
         → choice_of entry_kinds (word_at entry_kinds n) ≡ Ok n → id < points → pc < 32768 → at < none_in_main (entry_kind n) lines
         → clock < none_in_main (entry_kind n) clock_limit → FactsFit (shape_of h (entry_kind n) true points) h.cells.items f
-        → (e : Entry) × (says ≡ said.Entry e) × (words ≡ line (entry_words h.cells.items e)) × EntryFits h lines points e
+        → (e : Entry) × (says ≡ parsed.Entry e) × (words ≡ line (entry_words h.cells.items e)) × EntryFits h lines points e
     made n id pc at clock f told words_are choice i p l c fit =
         let kind = entry_kind n in
         let s = facts_said h kind points f fit in (

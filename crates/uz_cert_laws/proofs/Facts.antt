@@ -1,26 +1,18 @@
 -- The words of ranges, facts, pairs and flags: read as they are spelled, and only so.
-use Rattle.std.proofs.Common.{◌≡◌, ◌⊎◌, inl, inr, ℕ, zero, suc, ◌<◌, ◌≤◌, ◌≢◌, Bool, true, false, cond, not, ◌&&◌, eqb, leb, ltb, List}
-use Rattle.std.proofs.Common.{◌++◌, decimal, codes, bytes_eq, lit<, lit≤, refl, sym, ◌∙◌, ap, subst, arith}
-use Rattle.std.specs.Prelude.{⊤, Ok, Err}
-use Rattle.std.proofs.lemmas.Bool.Decides.{nat_tests}
-use Rattle.uz_schedule.specs.Ends.{Ends, is_within}
-use Rattle.uz_schedule.specs.WellFormed.{RangeFits, PartFits}
-use Rattle.uz_schedule.specs.declared.facts.Fact.{Fact}
-use Rattle.uz_schedule.specs.declared.facts.Fact.TheVariants.{Any, Between, Line, Loop, Old, OldFlags}
-use Rattle.uz_schedule.specs.declared.facts.PairFact.{PairFact}
+use Rattle.uz_cert_laws.proofs.Common.{◌≡◌, ◌⊎◌, inl, inr, ℕ, zero, suc, ◌<◌, ◌≤◌, ◌≢◌, Bool, true, false, cond, not, ◌&&◌, eqb, leb, ltb}
+use Rattle.uz_cert_laws.proofs.Common.{List, ◌++◌, decimal, codes, bytes_eq, lit<, lit≤, refl, sym, ◌∙◌, ap, subst, arith, ⊤, Ok, Err}
+use Rattle.uz_cert_laws.proofs.Common.{nat_tests, Ends, is_within, RangeFits, Fact, Any, Between, Line, Loop, Old, OldFlags, PairFact, Bit}
+use Rattle.uz_cert_laws.proofs.Common.{Zero, One, Free, ◌>>=◌, range, raw_of, ends, fact_of, pair_of, ends_of, bit_of, span_of, FactForms}
+use Rattle.uz_cert_laws.proofs.Common.{Raw, range_word, ends_word, fact_word, pair_word, flag_word}
+use Rattle.uz_schedule.specs.WellFormed.{PartFits}
 use Rattle.uz_schedule.specs.declared.facts.PairFact.TheVariants.{Any as AnyPair, Between as BetweenPair, Line as LinePair}
 use Rattle.uz_schedule.specs.declared.facts.PairFact.TheVariants.{Loop as LoopPair}
-use Rattle.uz_schedule.specs.declared.facts.Bit.{Bit}
-use Rattle.uz_schedule.specs.declared.facts.Bit.TheVariants.{Zero, One, Free, Old as OldBit}
-use Rattle.uz_cert_lines.specs.Why.{◌>>=◌}
-use Rattle.uz_cert_lines.specs.Values.{range, raw_of, is_ordered, ends, fact_of, pair_of, ends_of, bit_of}
-use Rattle.uz_cert_lines.specs.Values.{span_forms, span_of}
-use Rattle.uz_cert_lines.specs.Items.{temp_forms}
-use Rattle.uz_cert_lines.specs.declared.values.FactForms.{FactForms}
-use Rattle.uz_cert_lines.specs.declared.values.Raw.{Raw}
+use Rattle.uz_schedule.specs.declared.facts.Bit.TheVariants.{Old as OldBit}
+use Rattle.uz_cert_lines.specs.Values.{is_ordered}
+use Rattle.uz_cert_lines.specs.Values.{span_forms}
+use Rattle.uz_cert_lines.specs.Named.{temp_forms}
 use Rattle.uz_cert_lines.specs.declared.values.Raw.TheVariants as raw
 use Rattle.uz_cert_lines.specs.declared.why.CertWhy.TheVariants as why
-use Rattle.uz_cert_writer.specs.Spelling.{range_word, ends_word, fact_word, pair_word, flag_word}
 use Rattle.uz_cert_laws.proofs.Tests.{tested, and_true, both_true, and_false, not_true, fine, fine_is, fault_not, passed, so, else_so, bind_ok}
 use Rattle.uz_cert_laws.proofs.Tests.{then, le_is, is_le, lt_is, is_lt, number_is, number_not, same_number, word_is}
 use Rattle.uz_cert_laws.proofs.Raws.{raw_word, RawFits, range_only, range_not_all, one_range, two_range, raw_only, raw_so}

@@ -1,32 +1,26 @@
 -- What is spelled in a form is read back, and only what is spelled is read: by one step for each constructor.
-use Rattle.std.proofs.Common.{◌≡◌, ℕ, ◌≤◌, ◌<◌, ◌^◌, ℤ, Bool, true, false, List, [], ◌∷◌, ◌++◌, map, decimal, refl, sym, ◌∙◌, ap, subst}
-use Rattle.std.specs.Prelude.{⊤, All, Result, Ok}
-use Rattle.uz_schedule.specs.Ends.{Ends}
-use Rattle.uz_schedule.specs.WellFormed.{RangeFits, magnitude, spans_fit}
-use Rattle.uz_cert_lines.specs.Why.{◌>>=◌}
-use Rattle.uz_cert_lines.specs.Grammar.{Words, rest_of, next_as, fixed_of, number_of, choice_of, slope_of}
-use Rattle.uz_cert_lines.specs.declared.why.CertWhy.{CertWhy}
+use Rattle.uz_cert_laws.proofs.Common.{◌≡◌, ℕ, ◌≤◌, ◌<◌, ◌^◌, Bool, true, false, List, [], ◌∷◌, ◌++◌, map, decimal, refl, sym, ◌∙◌, ap}
+use Rattle.uz_cert_laws.proofs.Common.{subst, ⊤, Result, Ok, Ends, RangeFits, magnitude, spans_fit, ◌>>=◌, Words, rest_of, next_as}
+use Rattle.uz_cert_laws.proofs.Common.{fixed_of, number_of, choice_of, slope_of, CertWhy, LineForm, number, items, finish, reads, spans_of}
+use Rattle.uz_cert_laws.proofs.Common.{read_items, Facts, ParsedLine, ends_word, signed_word, plain, EachPlain, each_plain_append}
+use Rattle.std.proofs.Common.{ℤ}
+use Rattle.std.specs.Prelude.{All}
 use Rattle.uz_cert_lines.specs.declared.why.CertWhy.TheVariants as why
-use Rattle.uz_cert_lines.specs.Forms.{LineForm, fixed, number, choice, slope, spans, items, finish, reads, spans_of}
-use Rattle.uz_cert_lines.specs.Items.{read_items}
-use Rattle.uz_cert_lines.specs.declared.items.Facts.{Facts}
-use Rattle.uz_cert_lines.specs.declared.lines.Said.{Said}
-use Rattle.uz_cert_writer.specs.Spelling.{ends_word, signed_word}
-use Rattle.uz_cert_laws.specs.Said.{line}
+use Rattle.uz_cert_lines.specs.Forms.{fixed, choice, slope, spans}
+use Rattle.uz_cert_laws.specs.LineWords.{line}
 use Rattle.uz_cert_laws.specs.Spells.{word_at, Parts, says, spells}
 use Rattle.uz_cert_laws.proofs.Tests.{fine_is, fault_not, bind_ok, then}
-use Rattle.uz_cert_laws.proofs.Numbers.{IsAsked, number_so, number_only, slope_so, slope_only}
-use Rattle.uz_cert_laws.proofs.OnlyItems.{ShapeFits, items_only}
-use Rattle.uz_cert_laws.proofs.AgainItems.{FactsFit, items_again}
+use Rattle.uz_cert_laws.proofs.Numbers.{IsWithin, number_so, number_only, slope_so, slope_only}
+use Rattle.uz_cert_laws.proofs.ReadItems.{ShapeFits, items_only}
+use Rattle.uz_cert_laws.proofs.SpelledItems.{FactsFit, items_again}
 use Rattle.uz_cert_laws.proofs.Plains.{plain_read, plain_at, plain_signed, plain_spans, plain_items}
-use Rattle.uz_hex.proofs.Plain.{plain, EachPlain, each_plain_append}
 use Rattle.uz_cert_laws.proofs.Spans.{Bytes, own, spans_read, spans_gone}
 use Rattle.uz_cert_laws.proofs.Steps.{words_in, line_same, fixed_word, fixed_is, choice_word, with_front}
 
 -- each part is within its limits
 abbrev pub Fit : (form : LineForm) → Parts form → Type 0
 Fit (fixed wanted form) p = Fit form p
-Fit (number a form) p = IsAsked a p.0 × Fit (form p.0) p.1
+Fit (number a form) p = IsWithin a p.0 × Fit (form p.0) p.1
 Fit (choice wanted form) p = (choice_of wanted (word_at wanted p.0) ≡ Ok p.0) × Fit (form p.0) p.1
 Fit (slope limit form) p = (magnitude p.0 < limit) × Fit (form p.0) p.1
 Fit (spans cells form) p = (All (RangeFits 255) p.0 × (spans_fit (own cells) p.0 ≡ true)) × Fit (form p.0) p.1
@@ -34,13 +28,13 @@ Fit (items shape cells say) f = FactsFit shape cells f
 Fit (finish said) p = ⊤
 
 -- what is said of facts hangs on what they are, and not on how far they were read
-abbrev pub SaysFacts : (Facts → Said) → Type 0
+abbrev pub SaysFacts : (Facts → ParsedLine) → Type 0
 SaysFacts say = (f : Facts) (least after : ℕ) → say (record f { least = least; after = after }) ≡ say f
 
 -- the words that are due have no blank, and the numbers that are asked for are few enough to be read
 abbrev pub IsReadable : LineForm → Type 0
 IsReadable (fixed wanted form) = (plain wanted ≡ true) × IsReadable form
-IsReadable (number a form) = (a.limit ≤ 2 ^ 32) × ((n : ℕ) → IsAsked a n → IsReadable (form n))
+IsReadable (number a form) = (a.limit ≤ 2 ^ 32) × ((n : ℕ) → IsWithin a n → IsReadable (form n))
 IsReadable (choice wanted form) = EachPlain wanted × ((n : ℕ) → IsReadable (form n))
 IsReadable (slope limit form) = (limit ≤ 2 ^ 32) × ((z : ℤ) → IsReadable (form z))
 IsReadable (spans cells form) = Bytes cells × ((es : List Ends) → IsReadable (form es))
@@ -68,12 +62,12 @@ form_again (spans cells form) p s f =
     ∙ form_again (form p.0) p.1 (s.1 p.0) f.1
 form_again (items shape cells say) g s f =
     let r = items_again shape cells s.0 g f in
-    ap (λ (m : Result Facts CertWhy). m >>= (λ x. Ok (say x))) r.2 ∙ ap (λ (x : Said). Ok x) (s.1 g r.0 r.1)
+    ap (λ (m : Result Facts CertWhy). m >>= (λ x. Ok (say x))) r.2 ∙ ap (λ (x : ParsedLine). Ok x) (s.1 g r.0 r.1)
 form_again (finish said) p s f = refl
 
 -- a word that is due, what it is read as, and the words after it
-record Due {A : Type 0} (judge : List ℕ → Result A CertWhy) (later : A → Words → Result Said CertWhy) (list : List (List ℕ))
-    (ended : Bool) (said : Said) : Type 0 where
+record ExpectedLine {A : Type 0} (judge : List ℕ → Result A CertWhy) (later : A → Words → Result ParsedLine CertWhy) (list : List (List ℕ))
+    (ended : Bool) (said : ParsedLine) : Type 0 where
   is : A
   word : List ℕ
   left : List (List ℕ)
@@ -81,9 +75,9 @@ record Due {A : Type 0} (judge : List ℕ → Result A CertWhy) (later : A → W
   judged : judge word ≡ Ok is
   rest : later is (words_in left ended) ≡ Ok said
 
-due : {A : Type 0} (judge : List ℕ → Result A CertWhy) (later : A → Words → Result Said CertWhy) (list : List (List ℕ)) (ended : Bool)
-    (said : Said) → next_as judge (words_in list ended) >>= (λ n. later n (rest_of (words_in list ended))) ≡ Ok said
-    → Due judge later list ended said
+due : {A : Type 0} (judge : List ℕ → Result A CertWhy) (later : A → Words → Result ParsedLine CertWhy) (list : List (List ℕ)) (ended : Bool)
+    (said : ParsedLine) → next_as judge (words_in list ended) >>= (λ n. later n (rest_of (words_in list ended))) ≡ Ok said
+    → ExpectedLine judge later list ended said
 due judge later [] true said e = absurd (fault_not why.Word said e)
 due judge later [] false said e = absurd (fault_not why.NoEnd said e)
 due judge later (w ∷ ws) ended said e =
@@ -91,14 +85,14 @@ due judge later (w ∷ ws) ended said e =
     record { is = m.0; word = w; left = ws; parts = refl; judged = m.1; rest = m.2 }
 
 -- the parts that were read, of which these words are the spelling
-record Read (form : LineForm) (list : List (List ℕ)) (ended : Bool) (said : Said) : Type 0 where
+record Read (form : LineForm) (list : List (List ℕ)) (ended : Bool) (said : ParsedLine) : Type 0 where
   parts : Parts form
   told : said ≡ says form parts
   words : list ≡ spells form parts
   end : ended ≡ true
   fit : Fit form parts
 
-only : (form : LineForm) (list : List (List ℕ)) (ended : Bool) (said : Said) → IsReadable form → reads form (words_in list ended) ≡ Ok said
+only : (form : LineForm) (list : List (List ℕ)) (ended : Bool) (said : ParsedLine) → IsReadable form → reads form (words_in list ended) ≡ Ok said
     → Read form list ended said
 only (fixed wanted form) list ended said s e =
     let d = due (fixed_of wanted) (λ n words. reads form words) list ended said e in
@@ -170,10 +164,8 @@ only (items shape cells say) list ended said s e =
         slots_fit = h.fit.1.1.1.0.0;
         stack_fit = h.fit.1.1.1.0.1;
         cells_fit = h.fit.1.1.1.1.0.0;
-        top_fit = h.fit.1.1.1.1.1.0.0;
-        temp_fit = h.fit.1.1.1.1.1.1.0.0;
-        timed_fit = h.untimed;
-        next_fit = let s = h.fit.1.1.1.1.1.1.1 in (s.2, s.1, s.0, h.plain_next);
+        listed_fit = h.fit.1.1.1.1.1.0.0;
+        next_fit = let s = h.fit.1.1.1.1.1.1 in (s.2, s.1, s.0, h.plain_next);
         plain_fit = h.plain_pairs;
         meant = g.meant;
       };
@@ -183,7 +175,7 @@ only (finish told) [] false said s e = absurd (fault_not why.NoEnd said e)
 only (finish told) (w ∷ ws) true said s e = absurd (fault_not why.Word said e)
 only (finish told) (w ∷ ws) false said s e = absurd (fault_not why.Word said e)
 
-pub form_only : (form : LineForm) (words : Words) (said : Said) → IsReadable form → reads form words ≡ Ok said
+pub form_only : (form : LineForm) (words : Words) (said : ParsedLine) → IsReadable form → reads form words ≡ Ok said
     → (p : Parts form) × (said ≡ says form p) × (words ≡ line (spells form p)) × Fit form p
 form_only form words said s e =
     let r = only form words.list words.ended said s e in
@@ -201,7 +193,7 @@ form_plain (spans cells form) p s f =
 form_plain (items shape cells say) g s f = plain_items shape cells g s.0 f
 form_plain (finish said) p s f = tt
 
-pub read_plain : (form : LineForm) (words : Words) (said : Said) → IsReadable form → reads form words ≡ Ok said → EachPlain words.list
+pub read_plain : (form : LineForm) (words : Words) (said : ParsedLine) → IsReadable form → reads form words ≡ Ok said → EachPlain words.list
 read_plain form words said s e =
     let r = form_only form words said s e in
     subst (λ w. EachPlain w.list) (sym r.2) (form_plain form r.0 s r.3)

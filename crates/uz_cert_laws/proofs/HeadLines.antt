@@ -1,30 +1,24 @@
 -- The lines of sizes, response, stack and cells.
-use Rattle.std.proofs.Common.{◌≡◌, ◌⊎◌, inl, inr, ℕ, zero, suc, ◌+◌, ◌-◌, ◌<◌, ◌≤◌, ◌≢◌, ◌^◌, eqb, Bool, true, false, cond, List, [], ◌∷◌}
-use Rattle.std.proofs.Common.{decimal, codes, lit<, lit≤, refl, sym, ◌∙◌, ap, arith}
-use Rattle.std.specs.Prelude.{Ok}
+use Rattle.uz_cert_laws.proofs.Common.{◌≡◌, ◌⊎◌, inl, inr, ℕ, zero, suc, ◌+◌, ◌-◌, ◌<◌, ◌≤◌, ◌≢◌, eqb, Bool, true, false, cond, List}
+use Rattle.uz_cert_laws.proofs.Common.{[], ◌∷◌, decimal, codes, lit<, lit≤, refl, sym, ◌∙◌, ap, arith, Ok, CellFits, Head, Cell, Words}
+use Rattle.uz_cert_laws.proofs.Common.{choice_of, ends, reads, least_of, ParsedLine}
 use Rattle.uz_schedule.specs.Schedule.{response_clocks}
-use Rattle.uz_schedule.specs.WellFormed.{CellFits, StackFits}
+use Rattle.uz_schedule.specs.WellFormed.{StackFits}
 use Rattle.uz_schedule.specs.declared.kinds.Response.{Response}
 use Rattle.uz_schedule.specs.declared.kinds.Response.TheVariants.{Four, Five}
 use Rattle.uz_schedule.specs.declared.kinds.Owner.{Owner}
 use Rattle.uz_schedule.specs.declared.kinds.Owner.TheVariants.{Main as MainCell, Handler as HandlerCell}
-use Rattle.uz_schedule.specs.declared.header.Head.{Head}
-use Rattle.uz_schedule.specs.declared.header.Cell.{Cell}
-use Rattle.uz_cert_lines.specs.Grammar.{Words, choice_of}
-use Rattle.uz_cert_lines.specs.Values.{ends}
-use Rattle.uz_cert_lines.specs.Forms.{reads}
-use Rattle.uz_cert_lines.specs.Lines.{least_of, SizesFit, size_form, irq_form, response_of, stack_form, owner_of, off_stack}
+use Rattle.uz_cert_lines.specs.Lines.{SizesFit, size_form, irq_form, response_of, stack_form, owner_of, off_stack}
 use Rattle.uz_cert_lines.specs.Lines.{cell_form}
 use Rattle.uz_cert_lines.specs.declared.lines.Sizes.{Sizes}
 use Rattle.uz_cert_lines.specs.declared.lines.StackLine.{StackLine}
-use Rattle.uz_cert_lines.specs.declared.lines.Said.{Said}
-use Rattle.uz_cert_lines.specs.declared.lines.Said.TheVariants as said
+use Rattle.uz_cert_lines.specs.declared.lines.ParsedLine.TheVariants as parsed
 use Rattle.uz_cert_writer.specs.Spelling.{owner_word, cell_words}
-use Rattle.uz_cert_laws.specs.Said.{line, sizes_words, response_words, stack_line_words, with_stack}
+use Rattle.uz_cert_laws.specs.LineWords.{line, sizes_words, response_words, stack_line_words, with_stack}
 use Rattle.uz_cert_laws.specs.Spells.{word_at}
-use Rattle.uz_cert_laws.proofs.Numbers.{IsAsked}
-use Rattle.uz_cert_laws.proofs.Tests.{fine, number_is, number_not}
-use Rattle.uz_cert_laws.proofs.Steps.{is_within, under_both, both_under, least_small}
+use Rattle.uz_cert_laws.proofs.Numbers.{IsWithin}
+use Rattle.uz_cert_laws.proofs.Tests.{both_of, fine, number_is, number_not}
+use Rattle.uz_cert_laws.proofs.Steps.{apart, is_within, under_both, both_under, least_small}
 use Rattle.uz_cert_laws.proofs.FormLaws.{IsReadable, form_again, form_only}
 
 -- size
@@ -33,24 +27,17 @@ pub size_sound : IsReadable size_form
 size_sound =
     (refl, (lit≤ tt, λ k i. (lit≤ tt, λ l j. let few = j.below in (omega (arith, few), λ r o. (lit≤ tt, λ p q. (lit≤ tt, λ c t. tt))))))
 
-pub size_again : (s : Sizes) → SizesFit s → reads size_form (line (sizes_words s)) ≡ Ok (said.Size s)
+pub size_again : (s : Sizes) → SizesFit s → reads size_form (line (sizes_words s)) ≡ Ok (parsed.Size s)
 size_again s h =
-    form_again size_form (s.kinds, (s.lines, (s.rests, (s.points, (s.cells, tt))))) size_sound (
-      is_within 1 526 s.kinds (lit≤ tt) h.kinds_some (omega (arith, h.kinds_few)),
-      (
-        is_within 1 526 s.lines (lit≤ tt) h.lines_some (omega (arith, h.lines_few)),
-        (
-          is_within 0 (s.lines + 1) s.rests (omega (arith, h.lines_few)) (omega arith) (omega (arith, h.rests_few)),
-          (
-            is_within 1 524289 s.points (lit≤ tt) h.points_some (omega (arith, h.points_few)),
-            (is_within 0 17 s.cells (lit≤ tt) (omega arith) (omega (arith, h.cells_few)), tt),
-          ),
-        ),
-      ),
-    )
+    form_again size_form (s.kinds, (s.lines, (s.rests, (s.points, (s.cells, tt))))) size_sound
+    (both_of (is_within 1 526 s.kinds (lit≤ tt) h.kinds_some (omega (arith, h.kinds_few)))
+    (both_of (is_within 1 526 s.lines (lit≤ tt) h.lines_some (omega (arith, h.lines_few)))
+    (both_of (is_within 0 (s.lines + 1) s.rests (omega (arith, h.lines_few)) (omega arith) (omega (arith, h.rests_few)))
+    (both_of (is_within 1 524289 s.points (lit≤ tt) h.points_some (omega (arith, h.points_few)))
+    (is_within 0 17 s.cells (lit≤ tt) (omega arith) (omega (arith, h.cells_few)), tt)))))
 
-pub size_only : (words : Words) (says : Said) → reads size_form words ≡ Ok says
-    → (s : Sizes) × (says ≡ said.Size s) × (words ≡ line (sizes_words s)) × SizesFit s
+pub size_only : (words : Words) (says : ParsedLine) → reads size_form words ≡ Ok says
+    → (s : Sizes) × (says ≡ parsed.Size s) × (words ≡ line (sizes_words s)) × SizesFit s
 size_only words says e =
     let r = form_only size_form words says size_sound e in
     let p = r.0 in
@@ -76,7 +63,7 @@ pub irq_sound : IsReadable irq_form
 irq_sound =
     (refl, (lit≤ tt, λ n i. tt))
 
-pub irq_again : (r : Response) → reads irq_form (line (response_words r)) ≡ Ok (said.Irq r)
+pub irq_again : (r : Response) → reads irq_form (line (response_words r)) ≡ Ok (parsed.Irq r)
 irq_again Four = form_again irq_form (4, tt) irq_sound (is_within 4 6 4 (lit≤ tt) (lit≤ tt) (lit< tt), tt)
 irq_again Five = form_again irq_form (5, tt) irq_sound (is_within 4 6 5 (lit≤ tt) (lit≤ tt) (lit< tt), tt)
 
@@ -87,8 +74,8 @@ response_is n a b = by_test (eqb n 4) refl
     by_test true e = sym (number_is n 4 e)
     by_test false e = let apart : n ≢ 4 = number_not n 4 e in omega arith
 
-pub irq_only : (words : Words) (says : Said) → reads irq_form words ≡ Ok says
-    → (r : Response) × (says ≡ said.Irq r) × (words ≡ line (response_words r))
+pub irq_only : (words : Words) (says : ParsedLine) → reads irq_form words ≡ Ok says
+    → (r : Response) × (says ≡ parsed.Irq r) × (words ≡ line (response_words r))
 irq_only words says e =
     let r = form_only irq_form words says irq_sound e in (
       response_of r.0.0,
@@ -99,20 +86,12 @@ irq_only words says e =
 -- stack
 
 pub stack_sound : IsReadable stack_form
-stack_sound = (
-  refl,
-  (
-    lit≤ tt,
-    λ lo i. (
-      lit≤ tt,
-      λ hi j.
-          (omega (arith, least_small 33 (hi - lo) (lit≤ tt)), λ m k. (omega (arith, least_small 33 (hi - lo - m) (lit≤ tt)), λ n o. tt)),
-    ),
-  ),
-)
+stack_sound =
+    both_of refl (both_of (lit≤ tt) (λ lo i. both_of (lit≤ tt) (λ hi j. both_of (omega (arith, least_small 33 (hi - lo) (lit≤ tt)))
+    (λ m k. (omega (arith, least_small 33 (hi - lo - m) (lit≤ tt)), λ n o. tt)))))
 
 pub stack_again : (h : Head) (s : StackLine) → StackFits (with_stack h s) → reads stack_form (line (stack_line_words s))
-    ≡ Ok (said.Stack s)
+    ≡ Ok (parsed.Stack s)
 stack_again h s f =
     let low : 256 ≤ s.lo = f.low in
     let order : s.lo ≤ s.hi = f.order in
@@ -120,24 +99,16 @@ stack_again h s f =
     let main : s.main ≤ 32 = f.main in
     let handler : s.handler ≤ 32 = f.handler in
     let room : s.main + 2 + s.handler ≤ s.hi - s.lo + 1 = f.room in
-    form_again stack_form (s.lo, (s.hi, (s.main, (s.handler, tt)))) stack_sound (
-      is_within 256 4351 s.lo (lit≤ tt) low (omega arith),
-      (
-        is_within (s.lo + 1) 4352 s.hi (lit≤ tt) (omega arith) (omega arith),
-        (
-          is_within 0 (least_of 33 (s.hi - s.lo)) s.main (least_small 33 (s.hi - s.lo) (lit≤ tt)) (omega arith)
-              (under_both 33 (s.hi - s.lo) s.main (omega arith) (omega arith)),
-          (
-            is_within 0 (least_of 33 (s.hi - s.lo - s.main)) s.handler (least_small 33 (s.hi - s.lo - s.main) (lit≤ tt)) (omega arith)
-                (under_both 33 (s.hi - s.lo - s.main) s.handler (omega arith) (omega arith)),
-            tt,
-          ),
-        ),
-      ),
-    )
+    form_again stack_form (s.lo, (s.hi, (s.main, (s.handler, tt)))) stack_sound
+    (both_of (is_within 256 4351 s.lo (lit≤ tt) low (omega arith))
+    (both_of (is_within (s.lo + 1) 4352 s.hi (lit≤ tt) (omega arith) (omega arith))
+    (both_of (is_within 0 (least_of 33 (s.hi - s.lo)) s.main (least_small 33 (s.hi - s.lo) (lit≤ tt)) (omega arith)
+    (under_both 33 (s.hi - s.lo) s.main (omega arith) (omega arith)))
+    (both_of (is_within 0 (least_of 33 (s.hi - s.lo - s.main)) s.handler (least_small 33 (s.hi - s.lo - s.main) (lit≤ tt)) (omega arith)
+    (under_both 33 (s.hi - s.lo - s.main) s.handler (omega arith) (omega arith))) tt))))
 
-pub stack_only : (words : Words) (says : Said) → reads stack_form words ≡ Ok says
-    → (s : StackLine) × (says ≡ said.Stack s) × (words ≡ line (stack_line_words s)) × ((h : Head) → StackFits (with_stack h s))
+pub stack_only : (words : Words) (says : ParsedLine) → reads stack_form words ≡ Ok says
+    → (s : StackLine) × (says ≡ parsed.Stack s) × (words ≡ line (stack_line_words s)) × ((h : Head) → StackFits (with_stack h s))
 stack_only words says e =
     let r = form_only stack_form words says stack_sound e in
     let p = r.0 in
@@ -189,7 +160,7 @@ owner_read zero e = refl
 owner_read (suc zero) e = refl
 owner_read (suc (suc n)) e = absurd cc
 
-off_stack_so : (lo hi least n : ℕ) → 256 ≤ n → n ≤ 4351 → ((n < lo) ⊎ (hi < n)) → least ≤ n → IsAsked (off_stack lo hi least) n
+off_stack_so : (lo hi least n : ℕ) → 256 ≤ n → n ≤ 4351 → ((n < lo) ⊎ (hi < n)) → least ≤ n → IsWithin (off_stack lo hi least) n
 off_stack_so lo hi least n a b d l =
     record {
       low = a;
@@ -198,35 +169,26 @@ off_stack_so lo hi least n a b d l =
       least = l;
       other = apart n (omega arith);
     }
-  where
-    apart : (n : ℕ) → n < 2 ^ 31 → n ≡ 4294967295 → ⊥
-    apart n h e = omega arith
 
 pub cell_sound : (lo hi least : ℕ) → IsReadable (cell_form lo hi least)
 cell_sound lo hi least =
     (refl, (lit≤ tt, λ at i. ((refl, (refl, tt)), λ o. (lit≤ tt, λ low j. (lit≤ tt, λ high k. tt)))))
 
 pub cell_again : (h : Head) (least : ℕ) (c : Cell) → CellFits h c → least ≤ c.at → reads (cell_form h.lo h.hi least) (line (cell_words c))
-    ≡ Ok (said.Cell c)
+    ≡ Ok (parsed.Cell c)
 cell_again h least c f l =
     let order : c.range.lo ≤ c.range.hi = f.range.order in
     let high : c.range.hi ≤ 255 = f.range.high in
     ap (λ w. reads (cell_form h.lo h.hi least) (line (codes "cell" ∷ decimal c.at ∷ w ∷ decimal c.range.lo ∷ decimal c.range.hi ∷ [])))
     (owner_spelled c.owner)
-    ∙ form_again (cell_form h.lo h.hi least) (c.at, (owner_place c.owner, (c.range.lo, (c.range.hi, tt)))) (cell_sound h.lo h.hi least) (
-      off_stack_so h.lo h.hi least c.at f.low f.high f.off_stack l,
-      (
-        owner_again c.owner,
-        (
-          is_within 0 256 c.range.lo (lit≤ tt) (omega arith) (omega arith),
-          (is_within c.range.lo 256 c.range.hi (lit≤ tt) order (omega arith), tt),
-        ),
-      ),
-    )
-    ∙ ap (λ (o : Owner). fine (said.Cell (record { at = c.at; owner = o; range = ends c.range.lo c.range.hi }))) (owner_back c.owner)
+    ∙ form_again (cell_form h.lo h.hi least) (c.at, (owner_place c.owner, (c.range.lo, (c.range.hi, tt)))) (cell_sound h.lo h.hi least)
+    (both_of (off_stack_so h.lo h.hi least c.at f.low f.high f.off_stack l) (both_of (owner_again c.owner)
+    (both_of (is_within 0 256 c.range.lo (lit≤ tt) (omega arith) (omega arith))
+    (is_within c.range.lo 256 c.range.hi (lit≤ tt) order (omega arith), tt))))
+    ∙ ap (λ (o : Owner). fine (parsed.Cell (record { at = c.at; owner = o; range = ends c.range.lo c.range.hi }))) (owner_back c.owner)
 
-pub cell_only : (h : Head) (least : ℕ) (words : Words) (says : Said) → reads (cell_form h.lo h.hi least) words ≡ Ok says
-    → (c : Cell) × (says ≡ said.Cell c) × (words ≡ line (cell_words c)) × CellFits h c × (least ≤ c.at)
+pub cell_only : (h : Head) (least : ℕ) (words : Words) (says : ParsedLine) → reads (cell_form h.lo h.hi least) words ≡ Ok says
+    → (c : Cell) × (says ≡ parsed.Cell c) × (words ≡ line (cell_words c)) × CellFits h c × (least ≤ c.at)
 cell_only h least words says e =
     let r = form_only (cell_form h.lo h.hi least) words says (cell_sound h.lo h.hi least) e in
     let p = r.0 in

@@ -1,34 +1,32 @@
 -- Numbers as words of a line: read as they are written, and only so.
-use Rattle.std.proofs.Common.{◌≡◌, ◌⊎◌, inl, inr, ℕ, zero, suc, ◌+◌, ◌<◌, ◌≤◌, ◌≢◌, ◌^◌, ℤ, pos, negsuc, Bool, true, false, cond, not, ◌&&◌}
-use Rattle.std.proofs.Common.{eqb, leb, ltb, List, [], ◌∷◌, length, decimal, lit≤, add-one, refl, sym, ◌∙◌, ap, subst, arith}
-use Rattle.std.specs.Prelude.{Option, Some, None, Ok, Err}
-use Rattle.std.proofs.lemmas.Bool.Decides.{nat_tests}
+use Rattle.uz_cert_laws.proofs.Common.{◌≡◌, ◌⊎◌, inl, inr, ℕ, zero, suc, ◌+◌, ◌<◌, ◌≤◌, ◌≢◌, ◌^◌, Bool, true, false, cond, not, ◌&&◌, eqb}
+use Rattle.uz_cert_laws.proofs.Common.{leb, ltb, List, [], ◌∷◌, length, decimal, lit≤, add-one, refl, sym, ◌∙◌, ap, subst, arith, Option}
+use Rattle.uz_cert_laws.proofs.Common.{Some, None, Ok, Err, nat_tests, is_numeral, number_below, cut_at, number_read, number_again, Lacks}
+use Rattle.uz_cert_laws.proofs.Common.{lacks_nil, lacks_cons, All-head, All-tail, magnitude, number_of, slope_of, digits, one_number}
+use Rattle.uz_cert_laws.proofs.Common.{two_numbers, signed_word}
+use Rattle.std.proofs.Common.{ℤ, pos, negsuc}
 use Rattle.std.proofs.lemmas.Fmt.{decimal_nonempty}
-use Rattle.uz_hex.specs.Numbers.{all_digits, is_numeral, number_below, number_within}
-use Rattle.uz_hex.specs.Cutting.{cut_at, cut_behind}
-use Rattle.uz_hex.proofs.NumberWords.{number_read, number_again, within_read, within_again, digits_of_decimal}
-use Rattle.uz_hex.proofs.Plain.{Lacks, lacks_nil, lacks_cons}
-use Rattle.std.proofs.lemmas.List.Elements.{All-head, All-tail}
-use Rattle.uz_schedule.specs.WellFormed.{magnitude}
-use Rattle.uz_cert_lines.specs.Grammar.{asked, number_or, number_of, signed_or, unsigned_or, slope_of}
-use Rattle.uz_cert_lines.specs.Values.{digits, one_or, one_number, both, two_numbers}
-use Rattle.uz_cert_lines.specs.declared.words.Asked.{Asked}
+use Rattle.uz_hex.specs.Numbers.{all_digits, number_within}
+use Rattle.uz_hex.specs.Cutting.{cut_behind}
+use Rattle.uz_hex.proofs.NumberWords.{within_read, within_again, digits_of_decimal}
+use Rattle.uz_cert_lines.specs.Grammar.{asked, number_or, signed_or, unsigned_or}
+use Rattle.uz_cert_lines.specs.Values.{one_or, both}
+use Rattle.uz_cert_lines.specs.declared.words.NumberBounds.{NumberBounds}
 use Rattle.uz_cert_lines.specs.declared.why.CertWhy.TheVariants as why
-use Rattle.uz_cert_writer.specs.Spelling.{signed_word}
 use Rattle.uz_cert_laws.proofs.Tests.{and_true, both_true, and_false, not_true, fine_is, passed, failed, so, else_so, le_is, is_le, is_lt}
 use Rattle.uz_cert_laws.proofs.Tests.{not_le, not_lt, number_not, not_number, number_is}
 
 -- a number of a word, as it is asked
 
 -- what a place asks of a number
-pub record IsAsked (a : Asked) (n : ℕ) : Type 0 where
+pub record IsWithin (a : NumberBounds) (n : ℕ) : Type 0 where
   pub low : a.low ≤ n
   pub below : n < a.limit
   pub outside : (n < a.hole) ⊎ (a.hole_end ≤ n)
   pub least : a.least ≤ n
   pub other : n ≢ a.other
 
-asked_is : (a : Asked) (n m : ℕ) → asked a n ≡ Ok m → (n ≡ m) × ((n < a.hole) ⊎ (a.hole_end ≤ n)) × (a.least ≤ n) × (n ≢ a.other)
+asked_is : (a : NumberBounds) (n m : ℕ) → asked a n ≡ Ok m → (n ≡ m) × ((n < a.hole) ⊎ (a.hole_end ≤ n)) × (a.least ≤ n) × (n ≢ a.other)
 asked_is a n m e =
     let hole = failed (leb a.hole n && ltb n a.hole_end) (cond (leb a.least n && not (eqb n a.other)) (Ok n) (Err why.Order)) why.Limit m
     e in
@@ -43,7 +41,7 @@ asked_is a n m e =
     outside : (leb a.hole n ≡ false) ⊎ (ltb n a.hole_end ≡ false) → (n < a.hole) ⊎ (a.hole_end ≤ n)
     outside d = elim d [ inl f ↦ inl (not_le a.hole n f) | inr f ↦ inr (not_lt n a.hole_end f) ]
 
-asked_so : (a : Asked) (n : ℕ) → IsAsked a n → asked a n ≡ Ok n
+asked_so : (a : NumberBounds) (n : ℕ) → IsWithin a n → asked a n ≡ Ok n
 asked_so a n h =
     else_so (leb a.hole n && ltb n a.hole_end) (Err why.Limit) (cond (leb a.least n && not (eqb n a.other)) (Ok n) (Err why.Order))
     (hole h.outside)
@@ -53,14 +51,14 @@ asked_so a n h =
     hole : (n < a.hole) ⊎ (a.hole_end ≤ n) → (leb a.hole n && ltb n a.hole_end) ≡ false
     hole d = grind (arith, nat_tests)
 
-number_by : (a : Asked) (w : List ℕ) (o : Option ℕ) (t : Bool) (n : ℕ) → number_within a.low a.limit w ≡ o → number_or a t o ≡ Ok n
+number_by : (a : NumberBounds) (w : List ℕ) (o : Option ℕ) (t : Bool) (n : ℕ) → number_within a.low a.limit w ≡ o → number_or a t o ≡ Ok n
     → (m : ℕ) × (number_within a.low a.limit w ≡ Some m) × (asked a m ≡ Ok n)
 number_by a w None true n e f = absurd cc
 number_by a w None false n e f = absurd cc
 number_by a w (Some m) t n e f = (m, e, f)
 
 -- what is read is the number's decimal text
-pub number_only : (a : Asked) (w : List ℕ) (n : ℕ) → a.limit ≤ 2 ^ 32 → number_of a w ≡ Ok n → (w ≡ decimal n) × IsAsked a n
+pub number_only : (a : NumberBounds) (w : List ℕ) (n : ℕ) → a.limit ≤ 2 ^ 32 → number_of a w ≡ Ok n → (w ≡ decimal n) × IsWithin a n
 unfolding number_of
 number_only a w n h e =
     let some = number_by a w (number_within a.low a.limit w) (is_numeral w) n refl e in
@@ -70,12 +68,12 @@ number_only a w n h e =
   where
     at_n : (m : ℕ) → m ≡ n → (w ≡ decimal m) × (a.low ≤ m) × (m < a.limit)
         → (m ≡ n) × ((m < a.hole) ⊎ (a.hole_end ≤ m)) × (a.least ≤ m) × (m ≢ a.other)
-        → (w ≡ decimal n) × IsAsked a n
+        → (w ≡ decimal n) × IsWithin a n
     at_n m same word is =
-        subst (λ k. (w ≡ decimal k) × IsAsked a k) same
+        subst (λ k. (w ≡ decimal k) × IsWithin a k) same
         (word.0, record { low = word.1; below = word.2; outside = is.1; least = is.2; other = is.3 })
 
-pub number_so : (a : Asked) (n : ℕ) → a.limit ≤ 2 ^ 32 → IsAsked a n → number_of a (decimal n) ≡ Ok n
+pub number_so : (a : NumberBounds) (n : ℕ) → a.limit ≤ 2 ^ 32 → IsWithin a n → number_of a (decimal n) ≡ Ok n
 unfolding number_of
 number_so a n h is =
     ap (number_or a (is_numeral (decimal n))) (within_again a.low a.limit n h is.low is.below) ∙ asked_so a n is

@@ -1,10 +1,9 @@
 -- A list of optional items: for each key one value, whose item is left out where the value is the default. This is how
 -- registers, pairs, flags and cells are spelled.
-use Rattle.std.proofs.Common.{◌≡◌, ℕ, zero, suc, ◌+◌, ◌-◌, ◌≤◌, Bool, true, false, cond, List, [], ◌∷◌, ◌++◌, map, length, drop, refl, sym}
-use Rattle.std.proofs.Common.{◌∙◌, ap, subst, append_assoc, add-one, length-append, arith}
-use Rattle.std.specs.Prelude.{⊤, Some, slice_get, slice_set}
+use Rattle.uz_cert_laws.proofs.Common.{◌≡◌, ℕ, zero, suc, ◌+◌, ◌-◌, ◌≤◌, Bool, true, false, cond, List, [], ◌∷◌, ◌++◌, map, length, drop}
+use Rattle.uz_cert_laws.proofs.Common.{refl, sym, ◌∙◌, ap, subst, append_assoc, add-one, length-append, arith, ⊤, Some, slice_get}
+use Rattle.uz_cert_laws.proofs.Common.{slice_set, unless, options}
 use Rattle.std.proofs.lemmas.List.{drop-drop}
-use Rattle.uz_cert_writer.specs.Spelling.{unless, options}
 
 -- a value for each key, and the relation holds of each
 abbrev pub Each : {K A : Type 0} → (K → A → Type 0) → List K → List A → Type 0

@@ -1,44 +1,30 @@
 -- The words of spelled lines: each byte is above the space, so that a line is cut into its words again, and has no line end.
-use Rattle.std.proofs.Common.{◌≡◌, ◌≢◌, ℕ, zero, suc, ◌+◌, ◌-◌, ◌<◌, ◌≤◌, ◌^◌, Bool, true, false, ◌&&◌, ◌||◌, cond, eqb, ltb, List, [], ◌∷◌, ◌++◌, length}
-use Rattle.std.proofs.Common.{map, All, codes, decimal, lit≤, refl, ◌∙◌, arith}
-use Rattle.std.specs.Prelude.{⊤, ℤ, pos, negsuc}
-use Rattle.std.proofs.lemmas.List.Elements.{All-head, All-tail, All-weaker}
-use Rattle.uz_hex.proofs.Plain.{plain, EachPlain, Lacks, each_lacks, join_lacks, plain_append, plain_decimal}
-use Rattle.uz_hex.proofs.Plain.{each_plain_append}
-use Rattle.uz_schedule.specs.Ends.{Ends}
-use Rattle.uz_schedule.specs.Tracked.{tracks}
-use Rattle.uz_schedule.specs.Limits.{is_top}
-use Rattle.uz_schedule.specs.Schedule.{scanline}
-use Rattle.uz_schedule.specs.WellFormed.{RangeFits, magnitude}
-use Rattle.uz_schedule.specs.WellFormed.{is_default_flag}
-use Rattle.uz_schedule.specs.declared.kinds.Kind.{Kind}
-use Rattle.uz_schedule.specs.declared.facts.Fact.{Fact}
+use Rattle.uz_cert_laws.proofs.Common.{◌≡◌, ℕ, zero, suc, ◌+◌, ◌-◌, ◌<◌, ◌≤◌, ◌^◌, Bool, true, false, ◌&&◌, cond, eqb, ltb, List}
+use Rattle.uz_cert_laws.proofs.Common.{[], ◌∷◌, ◌++◌, length, map, codes, decimal, lit≤, refl, arith, ⊤, All-head, All-tail, plain}
+use Rattle.uz_cert_laws.proofs.Common.{EachPlain, Lacks, each_plain_append, Ends, tracks, RangeFits, magnitude, is_default_flag, Kind, Fact}
+use Rattle.uz_cert_laws.proofs.Common.{PairFact, Bit, Cell, is_default, is_any_pair, is_range, words_of, line_of, range_word, ends_word}
+use Rattle.uz_cert_laws.proofs.Common.{slope_word, fact_word, pair_word, flag_word, item, unless, register_items, pair_items, flag_items}
+use Rattle.uz_cert_laws.proofs.Common.{slot_items, cell_items, successor_items, value_word, value_item, value_items, listed_items}
+use Rattle.uz_cert_laws.proofs.Common.{ValueForm, a_number, a_range, ValueOf, is_usual, NamedItem, named_items, NamedValues, named_of}
+use Rattle.uz_cert_laws.proofs.Common.{signed_word, FactForms, bytes_forms, pair_forms, Shape, Facts}
+use Rattle.std.proofs.Common.{All}
+use Rattle.std.specs.Prelude.{ℤ, pos, negsuc}
+use Rattle.std.proofs.lemmas.List.Elements.{All-weaker}
+use Rattle.uz_hex.proofs.Plain.{each_lacks, join_lacks, plain_append, plain_decimal}
 use Rattle.uz_schedule.specs.declared.facts.Fact.TheVariants as fact
-use Rattle.uz_schedule.specs.declared.facts.PairFact.{PairFact}
 use Rattle.uz_schedule.specs.declared.facts.PairFact.TheVariants as pair
-use Rattle.uz_schedule.specs.declared.facts.Bit.{Bit}
 use Rattle.uz_schedule.specs.declared.facts.Bit.TheVariants as bit
-use Rattle.uz_schedule.specs.declared.header.Cell.{Cell}
-use Rattle.uz_cert_lines.specs.Defaults.{is_default, is_any_pair, is_range, is_default_top, is_default_temp}
-use Rattle.uz_cert_lines.specs.Grammar.{words_of}
-use Rattle.uz_cert_writer.specs.Spelling.{line_of, range_word, ends_word, slope_word, fact_word, pair_word, flag_word, item, unless}
-use Rattle.uz_cert_writer.specs.Spelling.{register_items, pair_items, flag_items, slot_items, cell_items, top_items, temp_items, successor_items}
-use Rattle.uz_cert_writer.specs.Spelling.{signed_word}
-use Rattle.uz_cert_lines.specs.declared.values.FactForms.{FactForms}
-use Rattle.uz_cert_lines.specs.Items.{bytes_forms, pair_forms}
-use Rattle.uz_cert_lines.specs.declared.items.Shape.{Shape}
-use Rattle.uz_cert_lines.specs.declared.items.Facts.{Facts}
+use Rattle.uz_cert_laws.proofs.Named.{ValueFits, is_sound, small, name_plain, is_table, table, Say}
 use Rattle.uz_cert_laws.specs.Spells.{word_at, letters_of_pairs, spelled}
 use Rattle.uz_cert_laws.proofs.Tests.{and_true, both_true}
 use Rattle.uz_cert_laws.proofs.WordsOfLines.{lacking_again}
 use Rattle.uz_cert_laws.proofs.Facts.{FactIn, PairIn}
 use Rattle.uz_cert_laws.proofs.Options.{each_length, each_other}
 use Rattle.uz_cert_laws.proofs.Spelled.{registers, numbered_cells}
-use Rattle.uz_cert_laws.proofs.Taken.{cell_form}
-use Rattle.uz_cert_laws.proofs.Takes.{top_below}
+use Rattle.uz_cert_laws.proofs.ItemForms.{cell_form}
 use Rattle.uz_cert_laws.proofs.Fitting.{all_of_each}
-use Rattle.uz_cert_laws.proofs.OnlyItems.{ShapeFits}
-use Rattle.uz_cert_laws.proofs.AgainItems.{FactsFit}
+use Rattle.uz_cert_laws.proofs.ReadItems.{ShapeFits}
+use Rattle.uz_cert_laws.proofs.SpelledItems.{FactsFit}
 
 -- lines are cut into their words again
 
@@ -202,16 +188,19 @@ plain_cells kind i (c ∷ cs) (f ∷ fs) h all =
         (plain_fact f (All-head SmallFact f fs all))) a
     by false a b = b
 
-plain_top : (top : ℕ) → is_top top ≡ true → EachPlain (top_items top)
-plain_top top h =
-    let few : top < scanline = top_below top h in
-    plain_unless (is_default_top top) (item (codes "top") (decimal top)) []
-    (plain_item (codes "top") (decimal top) refl (plain_number top (omega arith))) tt
+plain_value : (form : ValueForm) (x : ValueOf form) → is_sound form ≡ true → ValueFits form x → plain (value_word form x) ≡ true
+plain_value (a_number limit may usual) n s f = plain_read n limit (small limit usual may s) f.1
+plain_value a_range e s f = plain_range e (small_range 255 e (omega arith) f)
 
-plain_temp : (temp : Ends) → RangeFits 255 temp → EachPlain (temp_items temp)
-plain_temp temp h =
-    plain_unless (is_default_temp temp) (item (codes "temp") (range_word temp)) []
-    (plain_item (codes "temp") (range_word temp) refl (plain_range temp (small_range 255 temp (omega arith) h))) tt
+plain_listed : (is : List NamedItem) (shape : Shape) (v : NamedValues is) → is_table is ≡ true → Say is shape v
+    → EachPlain (listed_items is v)
+plain_listed [] shape v e s = tt
+plain_listed (i ∷ is) shape v e s =
+    let t = table i is e in
+    each_plain_append (value_items i v.0) (listed_items is v.1)
+    (plain_unless (is_usual i.form v.0) (value_item i v.0) []
+    (plain_item i.key (value_word i.form v.0) (name_plain i.key t.name) (plain_value i.form v.0 t.sound s.0.0)) tt)
+    (plain_listed is shape v.1 t.rest s.1)
 
 plain_successors : (most : ℕ) (ids : List ℕ) → most ≤ 2 ^ 32 → All (λ id. id < most) ids → EachPlain (successor_items ids)
 plain_successors most [] h all = tt
@@ -244,9 +233,8 @@ plain_items shape cells f h s =
     (all_of_each SmallFact (numbered_cells kind 0 cells) f.cells.items
     (each_other (λ p x. FactIn (cell_form shape p.1) x) (λ p x. SmallFact x) (numbered_cells kind 0 cells) f.cells.items
     (λ p x i. small_cell shape p.1 x i) s.cells_fit)))
-    (each_plain_append (top_items f.top) _ (plain_top f.top s.top_fit)
-    (each_plain_append (temp_items f.temp) _ (plain_temp f.temp s.temp_fit)
-    (plain_successors shape.points f.next.items points s.next_fit.1)))))))
+    (each_plain_append (listed_items named_items (named_of f)) _ (plain_listed named_items shape (named_of f) refl s.listed_fit)
+    (plain_successors shape.points f.next.items points s.next_fit.1))))))
 
 pub plain_signed : (z : ℤ) (limit : ℕ) → limit ≤ 2 ^ 32 → magnitude z < limit → plain (signed_word z) ≡ true
 plain_signed (pos n) limit l h = plain_read n limit l h

@@ -1,37 +1,31 @@
 -- The line of a point.
-use Rattle.std.proofs.Common.{◌≡◌, ℕ, zero, suc, ◌+◌, ◌-◌, ◌*◌, ◌/◌, ◌<◌, ◌≤◌, ◌^◌, ℤ, pos, negsuc, Bool, true, false, ◌&&◌, eqb, List, []}
-use Rattle.std.proofs.Common.{◌∷◌, decimal, codes, get_or, lit<, lit≤, refl, sym, ◌∙◌, ap, subst, arith}
-use Rattle.std.specs.Prelude.{Ok}
-use Rattle.std.proofs.lemmas.Fmt.{decimal_digit}
+use Rattle.uz_cert_laws.proofs.Common.{◌≡◌, ℕ, zero, suc, ◌+◌, ◌-◌, ◌*◌, ◌/◌, ◌<◌, ◌≤◌, ◌^◌, Bool, true, false, ◌&&◌, ◌||◌, eqb, List, []}
+use Rattle.uz_cert_laws.proofs.Common.{◌∷◌, decimal, codes, get_or, lit<, lit≤, refl, sym, ◌∙◌, ap, subst, arith, Ok, decimal_digit}
+use Rattle.uz_cert_laws.proofs.Common.{whole_byte, clock_limit, scanline, RangeFits, FactFits, PairFits, BitFits, magnitude, is_zero_or_one}
+use Rattle.uz_cert_laws.proofs.Common.{is_carry_and_zero_default, Kind, Main, Handler, Alone, Head, Words, choice_of, is_handler}
+use Rattle.uz_cert_laws.proofs.Common.{bytes_forms, pair_forms, reads, none_in_main, Facts, ParsedLine, Version, First, Second, kind_word}
+use Rattle.uz_cert_laws.proofs.Common.{signed_word, named_items, named_of, with_named, usual_facts, Shape}
+use Rattle.std.proofs.Common.{ℤ, pos, negsuc}
 use Rattle.uz_schedule.specs.Blank.{blank_point}
-use Rattle.uz_schedule.specs.Ends.{whole_byte}
-use Rattle.uz_schedule.specs.Limits.{clock_limit, is_top}
-use Rattle.uz_schedule.specs.Schedule.{scanline}
+use Rattle.uz_schedule.specs.Limits.{is_top}
+use Rattle.uz_schedule.specs.Schedule.{half_line}
 use Rattle.uz_schedule.specs.Told.{IsPointTold, point_told as told_over}
-use Rattle.uz_schedule.specs.WellFormed.{RangeFits, FactFits, PairFits, BitFits, CoreFits, MemoryFits, PointFits, PointKindFits}
-use Rattle.uz_schedule.specs.WellFormed.{IsAtBegin, IsTimerLeftOut, magnitude}
-use Rattle.uz_schedule.specs.WellFormed.{instances_of, is_zero_or_one, is_carry_and_zero_default}
-use Rattle.uz_schedule.specs.declared.kinds.Kind.{Kind}
-use Rattle.uz_schedule.specs.declared.kinds.Kind.TheVariants.{Main, Handler, Alone}
-use Rattle.uz_schedule.specs.declared.header.Head.{Head}
+use Rattle.uz_schedule.specs.WellFormed.{CoreFits, MemoryFits, PointFits, PointKindFits}
+use Rattle.uz_schedule.specs.WellFormed.{IsAtBegin, IsTimerLeftOut}
+use Rattle.uz_schedule.specs.WellFormed.{instances_of}
 use Rattle.uz_schedule.specs.declared.facts.PairFact.TheVariants.{Any as AnyPair}
 use Rattle.uz_schedule.specs.declared.states.Point.{Point}
-use Rattle.uz_cert_lines.specs.Grammar.{Words, choice_of}
-use Rattle.uz_cert_lines.specs.Items.{is_handler, bytes_forms, pair_forms}
-use Rattle.uz_cert_lines.specs.Forms.{reads}
-use Rattle.uz_cert_lines.specs.Lines.{none_in_main, is_timed, point_shape, IsPointIn, point_kind, pending_limit, count_limit, point_of, point_after, point_form}
-use Rattle.uz_cert_lines.specs.declared.items.Facts.{Facts}
+use Rattle.uz_cert_lines.specs.Lines.{is_timed, point_shape, IsPointIn, point_kind, pending_limit, count_limit, point_after, point_form}
 use Rattle.uz_cert_lines.specs.declared.lines.PointPlace.{PointPlace}
-use Rattle.uz_cert_lines.specs.declared.lines.Said.{Said}
-use Rattle.uz_cert_lines.specs.declared.lines.Said.TheVariants as said
-use Rattle.uz_cert_lines.specs.declared.version.Version.{Version}
-use Rattle.uz_cert_lines.specs.declared.version.Version.TheVariants.{First, Second}
-use Rattle.uz_cert_writer.specs.Spelling.{kind_word, signed_word, truth_word, point_items, point_words}
-use Rattle.uz_cert_laws.specs.Said.{line, PlacesAre}
-use Rattle.uz_cert_laws.proofs.Tests.{fine, true_not}
+use Rattle.uz_cert_lines.specs.declared.lines.ParsedLine.TheVariants as parsed
+use Rattle.uz_cert_writer.specs.Spelling.{truth_word, point_items, point_words}
+use Rattle.uz_cert_laws.specs.LineWords.{line, PlacesAre}
+use Rattle.uz_cert_laws.proofs.Tests.{both_of, fine, true_not, number_is}
+use Rattle.uz_cert_lines.specs.Named.{values_of, point_of}
+use Rattle.uz_cert_laws.proofs.Named.{Say}
 use Rattle.uz_cert_laws.specs.Spells.{word_at, Parts, says, spells}
-use Rattle.uz_cert_laws.proofs.OnlyItems.{ShapeFits}
-use Rattle.uz_cert_laws.proofs.AgainItems.{FactsFit}
+use Rattle.uz_cert_laws.proofs.ReadItems.{ShapeFits}
+use Rattle.uz_cert_laws.proofs.SpelledItems.{FactsFit}
 use Rattle.uz_cert_laws.proofs.Steps.{is_within as within_so, under_both, both_under, least_small}
 use Rattle.uz_cert_laws.proofs.FormLaws.{Fit, SaysFacts, IsReadable, form_again, form_only}
 use Rattle.uz_cert_laws.proofs.Facts.{FactIn, PairIn, BitIn}
@@ -48,6 +42,13 @@ begin_of : (kind : Kind) (p : Point) → PointKindFits kind p → kind ≡ Main 
 begin_of Main p h e = h.0
 begin_of Handler p h e = absurd cc
 begin_of Alone p h e = absurd cc
+
+top_below : (top : ℕ) → is_top top ≡ true → top < scanline
+top_below top h = by_half (eqb top (half_line - 1)) refl h
+  where
+    by_half : (t : Bool) → eqb top (half_line - 1) ≡ t → (t || eqb top (scanline - 1)) ≡ true → top < scanline
+    by_half true e h = omega (arith, number_is top (half_line - 1) e)
+    by_half false e h = omega (arith, number_is top (scanline - 1) h)
 
 -- what is asked of the timer: where its items may not stand, it has the defaults
 
@@ -79,16 +80,12 @@ point_untimed Second Alone p h o u = h.1
 
 -- what a point says by its items
 abbrev facts_of : Point → Facts
-facts_of p = record {
-  least = 0;
-  after = 0;
+facts_of p = record (with_named usual_facts (values_of p) 0) {
   regs = p.regs;
   pairs = p.pairs;
   flags = p.flags;
   stack = p.stack;
   cells = p.cells;
-  top = p.top;
-  temp = p.temp;
   next = p.next;
 }
 
@@ -106,9 +103,10 @@ point_sayable version h lines points p f o =
       slots_fit = f.memory.slots;
       stack_fit = all_other (FactFits p.kind) (FactIn (bytes_forms shape)) p.stack.items (λ x i. fact_in shape x refl i) f.memory.stack;
       cells_fit = cells_in shape h.cells.items p.cells.items refl f.memory.cell_count f.memory.cells;
-      top_fit = point_top p.kind p f.kind;
-      temp_fit = point_temp p.kind p f.kind;
-      timed_fit = λ u. let left = point_untimed version p.kind p f.kind o u in (left.top, left.temp);
+      listed_fit = (
+        ((point_top p.kind p f.kind, top_below p.top (point_top p.kind p f.kind)), λ u. (point_untimed version p.kind p f.kind o u).top),
+        ((point_temp p.kind p f.kind, λ u. (point_untimed version p.kind p f.kind o u).temp), tt),
+      );
       next_fit = (f.next.rise, f.next.there, f.next.few, λ e. absurd (true_not false e refl));
       plain_fit = λ e. absurd (true_not false e refl);
       meant = λ one. said_so (is_zero_or_one (get_or p.pairs 2 AnyPair)) (is_carry_and_zero_default p.kind p.flags) one f.core.text;
@@ -175,7 +173,7 @@ point_shape_fits version h lines points kind a =
     }
 
 point_says : (version : Version) (h : Head) (points : ℕ) (at : PointPlace)
-    → SaysFacts (λ f. said.Point (point_of at f))
+    → SaysFacts (λ f. parsed.Point (point_of at f))
 unfolding point_of
 point_says version h points at f least after = refl
 
@@ -187,44 +185,23 @@ after_sound version h lines points left kind a =
     let lines_small = none_small kind lines (omega arith) in
     let counts_small = none_small kind 256 (lit≤ tt) in
     let clocks_small = none_small kind clock_limit (lit≤ tt) in
-    let waits_small = pending_small kind in (
-      lit≤ tt,
-      λ pc i. (
-        omega (arith, lines_small),
-        λ l0 j. (
-          omega (arith, lines_small),
-          λ l1 k. (
-            omega (arith, counts_small),
-            λ c0 o. (
-              omega (arith, least_small (none_in_main kind 256) (c0 + left / (l1 - l0 + 1)) counts_small),
-              λ c1 q. (
-                omega (arith, clocks_small),
-                λ clock r. (
-                  omega (arith, clocks_small),
-                  λ s. (
-                    omega (arith, waits_small),
-                    λ n t. (
-                      point_shape_fits version h lines points kind a,
-                      point_says version h points (record {
-                        kind = kind;
-                        pc = pc;
-                        l0 = l0;
-                        l1 = l1;
-                        c0 = c0;
-                        c1 = c1;
-                        clock = clock;
-                        slope = s;
-                        pending = eqb n 1;
-                      }),
-                    ),
-                  ),
-                ),
-              ),
-            ),
-          ),
-        ),
-      ),
-    )
+    let waits_small = pending_small kind in
+    both_of (lit≤ tt) (λ pc i. both_of (omega (arith, lines_small)) (λ l0 j. both_of (omega (arith, lines_small)) (λ l1 k.
+    both_of (omega (arith, counts_small)) (λ c0 o.
+    both_of (omega (arith, least_small (none_in_main kind 256) (c0 + left / (l1 - l0 + 1)) counts_small)) (λ c1 q.
+    both_of (omega (arith, clocks_small)) (λ clock r. both_of (omega (arith, clocks_small)) (λ s. both_of (omega (arith, waits_small)) (λ n t.
+    both_of (point_shape_fits version h lines points kind a)
+    (point_says version h points (record {
+      kind = kind;
+      pc = pc;
+      l0 = l0;
+      l1 = l1;
+      c0 = c0;
+      c1 = c1;
+      clock = clock;
+      slope = s;
+      pending = eqb n 1;
+    }))))))))))
 
 pub point_sound : (version : Version) (h : Head) (lines points left : ℕ) → PlacesAre h lines points → IsReadable (point_form version h lines points left)
 point_sound version h lines points left a =
@@ -248,7 +225,7 @@ point_so version h lines points left Alone q a f =
 
 pub point_again : (version : Version) (h : Head) (lines points left : ℕ) (p : Point) → PlacesAre h lines points → left ≤ 2 ^ 30
     → PointFits h lines points p → IsPointIn version p → instances_of p ≤ left
-    → reads (point_form version h lines points left) (line (point_words h.cells.items p)) ≡ Ok (said.Point p)
+    → reads (point_form version h lines points left) (line (point_words h.cells.items p)) ≡ Ok (parsed.Point p)
 unfolding point_after
 point_again version h lines points left p a small f o fits =
     let few : lines ≤ 525 = a.lines_few in
@@ -268,37 +245,21 @@ point_again version h lines points left p a small f o fits =
     (line (codes "point" ∷ kind_word kind ∷ decimal p.pc ∷ decimal p.l0 ∷ decimal p.l1 ∷ decimal p.c0 ∷ decimal p.c1 ∷ decimal p.clock
     ∷ signed_word p.slope ∷ w ∷ point_items h.cells.items p))) (truth_spelled p.pending)
     ∙ point_so version h lines points left kind
-    (p.pc, (p.l0, (p.l1, (p.c0, (p.c1, (p.clock, (p.slope, (n, facts_of p)))))))) a (
-      within_so 0 32768 p.pc (lit≤ tt) (omega arith) f.pc,
-      (
-        within_so 0 (none_in_main kind lines) p.l0 lines_small (omega arith)
-            (under_none kind lines p.l0 (λ m. (begin m).first_line) (omega arith)),
-        (
-          within_so p.l0 (none_in_main kind lines) p.l1 lines_small line_order (under_none kind lines p.l1 (λ m. (begin m).last_line) last),
-          (
-            within_so 0 (none_in_main kind 256) p.c0 counts_small (omega arith)
-                (under_none kind 256 p.c0 (λ m. (begin m).first_count) (omega arith)),
-            (
-              within_so p.c0 limit p.c1 limit_small count_order
-                  (under_both (none_in_main kind 256) (p.c0 + left / (p.l1 - p.l0 + 1)) p.c1
-                  (under_none kind 256 p.c1 (λ m. (begin m).last_count) (omega arith)) (box_under left p.l0 p.l1 p.c0 p.c1 count_order fits)),
-              (
-                within_so 0 (none_in_main kind clock_limit) p.clock clocks_small (omega arith)
-                    (under_none kind clock_limit p.clock (λ m. (begin m).clock) f.box.clock),
-                (
-                  under_none kind clock_limit (magnitude p.slope) (λ m. ap magnitude (begin m).slope) f.box.slope,
-                  (
-                    within_so 0 (pending_limit kind) n (pending_small kind) (omega arith) (truth_under kind p f.kind),
-                    point_sayable version h lines points p f o,
-                  ),
-                ),
-              ),
-            ),
-          ),
-        ),
-      ),
-    )
-    ∙ ap (λ (x : Point). fine (said.Point x)) (point_back p n f.told (truth_back p.pending))
+    (p.pc, (p.l0, (p.l1, (p.c0, (p.c1, (p.clock, (p.slope, (n, facts_of p)))))))) a
+    (both_of (within_so 0 32768 p.pc (lit≤ tt) (omega arith) f.pc)
+    (both_of (within_so 0 (none_in_main kind lines) p.l0 lines_small (omega arith)
+    (under_none kind lines p.l0 (λ m. (begin m).first_line) (omega arith)))
+    (both_of (within_so p.l0 (none_in_main kind lines) p.l1 lines_small line_order (under_none kind lines p.l1 (λ m. (begin m).last_line) last))
+    (both_of (within_so 0 (none_in_main kind 256) p.c0 counts_small (omega arith)
+    (under_none kind 256 p.c0 (λ m. (begin m).first_count) (omega arith)))
+    (both_of (within_so p.c0 limit p.c1 limit_small count_order (under_both (none_in_main kind 256) (p.c0 + left / (p.l1 - p.l0 + 1)) p.c1
+    (under_none kind 256 p.c1 (λ m. (begin m).last_count) (omega arith)) (box_under left p.l0 p.l1 p.c0 p.c1 count_order fits)))
+    (both_of (within_so 0 (none_in_main kind clock_limit) p.clock clocks_small (omega arith)
+    (under_none kind clock_limit p.clock (λ m. (begin m).clock) f.box.clock))
+    (both_of (under_none kind clock_limit (magnitude p.slope) (λ m. ap magnitude (begin m).slope) f.box.slope)
+    (both_of (within_so 0 (pending_limit kind) n (pending_small kind) (omega arith) (truth_under kind p f.kind))
+    (point_sayable version h lines points p f o)))))))))
+    ∙ ap (λ (x : Point). fine (parsed.Point x)) (point_back p n f.told (truth_back p.pending))
 
 -- only
 
@@ -348,27 +309,24 @@ record PlaceSaid (lines : ℕ) (at : PointPlace) : Type 0 where
   pub slope_main : at.kind ≡ Main → magnitude at.slope ≡ 0
   pub waits : (n : ℕ) × (at.pending ≡ eqb n 1) × (n < pending_limit at.kind)
 
--- the timer, as items say it
-abbrev TimerSaid : Version → Kind → Facts → Type 0
-TimerSaid version kind f =
-    (is_top f.top ≡ true) × RangeFits 255 f.temp × (is_timed version kind ≡ false → (f.top ≡ scanline - 1) × (f.temp ≡ whole_byte))
-
 other_untimed : (version : Version) (kind : Kind) → is_handler kind ≡ false → is_timed version kind ≡ false
 other_untimed First kind e = refl
 other_untimed Second kind e = e
 
-left_out : (at : PointPlace) (f : Facts) → (f.top ≡ scanline - 1) × (f.temp ≡ whole_byte) → IsTimerLeftOut (point_of at f)
+left_out : (shape : Shape) (at : PointPlace) (f : Facts) → shape.timed ≡ false → Say named_items shape (named_of f)
+    → IsTimerLeftOut (point_of at f)
 unfolding point_of
-left_out at f h = record { top = h.0; temp = h.1 }
+left_out shape at f u h = record { top = h.0.1 u; temp = h.1.0.1 u }
 
-point_is_in : (version : Version) (at : PointPlace) (f : Facts) → TimerSaid version at.kind f → IsPointIn version (point_of at f)
-point_is_in First at f t = left_out at f (t.2 refl)
-point_is_in Second at f t = tt
+point_is_in : (version : Version) (h : Head) (points : ℕ) (at : PointPlace) (f : Facts)
+    → Say named_items (point_shape version h at.kind points) (named_of f) → IsPointIn version (point_of at f)
+point_is_in First h points at f t = left_out (point_shape First h at.kind points) at f refl t
+point_is_in Second h points at f t = tt
 
-point_kind_fits : (version : Version) (lines : ℕ) (at : PointPlace) (f : Facts) (kind : Kind) → at.kind ≡ kind → PlaceSaid lines at
-    → TimerSaid version kind f → PointKindFits kind (point_of at f)
+point_kind_fits : (version : Version) (h : Head) (lines points : ℕ) (at : PointPlace) (f : Facts) (kind : Kind) → at.kind ≡ kind
+    → PlaceSaid lines at → Say named_items (point_shape version h kind points) (named_of f) → PointKindFits kind (point_of at f)
 unfolding point_of
-point_kind_fits version lines at f Main e p t = (
+point_kind_fits version h lines points at f Main e p t = (
   record {
     first_line = p.l0_main e;
     last_line = p.l1_main e;
@@ -378,12 +336,12 @@ point_kind_fits version lines at f Main e p t = (
     slope = no_slope at.slope (p.slope_main e);
     pending = p.waits.1 ∙ none_waits p.waits.0 (subst (λ k. p.waits.0 < pending_limit k) e p.waits.2);
   },
-  left_out at f (t.2 (other_untimed version Main refl)),
+  left_out (point_shape version h Main points) at f (other_untimed version Main refl) t,
 )
-point_kind_fits version lines at f Handler e p t = record { top = t.0; temp = t.1 }
-point_kind_fits version lines at f Alone e p t = (
+point_kind_fits version h lines points at f Handler e p t = record { top = t.0.0.0; temp = t.1.0.0 }
+point_kind_fits version h lines points at f Alone e p t = (
   p.waits.1 ∙ none_waits p.waits.0 (subst (λ k. p.waits.0 < pending_limit k) e p.waits.2),
-  left_out at f (t.2 (other_untimed version Alone refl)),
+  left_out (point_shape version h Alone points) at f (other_untimed version Alone refl) t,
 )
 
 has_text : (a b : Bool) → (a ≡ true → b ≡ false) → (a && b) ≡ false
@@ -429,7 +387,7 @@ point_fits : (version : Version) (h : Head) (lines points : ℕ) (at : PointPlac
 unfolding point_of
 point_fits version h lines points at f r p =
     record {
-      kind = point_kind_fits version lines at f at.kind refl p (r.top_fit, r.temp_fit, r.timed_fit);
+      kind = point_kind_fits version h lines points at f at.kind refl p r.listed_fit;
       told = refl;
       pc = p.pc;
       box = record {
@@ -449,7 +407,7 @@ point_fits version h lines points at f r p =
 record PointMade (version : Version) (h : Head) (lines points left : ℕ) (kind : Kind) (q : Parts (point_after version h lines points left kind)) : Type
     0 where
   p : Point
-  told : says (point_after version h lines points left kind) q ≡ said.Point p
+  told : says (point_after version h lines points left kind) q ≡ parsed.Point p
   words : codes "point" ∷ kind_word kind ∷ spells (point_after version h lines points left kind) q ≡ point_words h.cells.items p
   fits : PointFits h lines points p
   own : IsPointIn version p
@@ -521,13 +479,13 @@ point_made version h lines points left kind q some g =
           ∷ signed_word steps ∷ w ∷ spelled kind h.cells.items f) (truth_is n (omega (arith, waits, pending_two kind)))
           ∙ point_words_are h at f;
       fits = point_fits version h lines points at f facts place;
-      own = point_is_in version at f (facts.top_fit, facts.temp_fit, facts.timed_fit);
+      own = point_is_in version h points at f facts.listed_fit;
       instances = instances_are at left f (under_box left l0 l1 c0 c1 g.1.1.1.1.0.low both.1);
     }
 
-pub point_only : (version : Version) (h : Head) (lines points left : ℕ) (words : Words) (says : Said) → PlacesAre h lines points → 1 ≤ lines → left ≤ 2 ^ 30
+pub point_only : (version : Version) (h : Head) (lines points left : ℕ) (words : Words) (says : ParsedLine) → PlacesAre h lines points → 1 ≤ lines → left ≤ 2 ^ 30
     → reads (point_form version h lines points left) words ≡ Ok says
-    → (p : Point) × (says ≡ said.Point p) × (words ≡ line (point_words h.cells.items p)) × PointFits h lines points p
+    → (p : Point) × (says ≡ parsed.Point p) × (words ≡ line (point_words h.cells.items p)) × PointFits h lines points p
     × IsPointIn version p × (instances_of p ≤ left)
 point_only version h lines points left words says a some small e =
     let r = form_only (point_form version h lines points left) words says (point_sound version h lines points left a) e in

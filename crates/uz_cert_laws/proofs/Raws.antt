@@ -1,18 +1,11 @@
 -- The word of a fact before its order is asked: read as it is written, and only so.
-use Rattle.std.proofs.Common.{◌≡◌, ℕ, ◌<◌, ◌≤◌, ◌≢◌, ◌^◌, Bool, true, false, cond, ◌&&◌, eqb, ltb, List, [], ◌∷◌, ◌++◌, decimal, codes}
-use Rattle.std.proofs.Common.{bytes_eq, lit<, lit≤, refl, sym, ◌∙◌, ap, subst, arith, append_assoc}
-use Rattle.std.specs.Prelude.{Option, Some, None, Result, Ok, Err}
-use Rattle.uz_hex.specs.Cutting.{cut_at}
-use Rattle.uz_hex.proofs.Cuts.{cut_read, cut_again}
-use Rattle.uz_cert_lines.specs.Why.{◌>>=◌}
-use Rattle.uz_cert_lines.specs.Values.{one_number, two_numbers, whole, slope, sloped_parts, sloped_cut, sloped, old, range_parts, range_cut}
-use Rattle.uz_cert_lines.specs.Values.{range, raw_of}
-use Rattle.uz_cert_lines.specs.declared.values.FactForms.{FactForms}
-use Rattle.uz_cert_lines.specs.declared.values.Raw.{Raw}
+use Rattle.uz_cert_laws.proofs.Common.{◌≡◌, ℕ, ◌<◌, ◌≤◌, ◌≢◌, ◌^◌, Bool, true, false, cond, ◌&&◌, eqb, ltb, List, [], ◌∷◌, ◌++◌, decimal}
+use Rattle.uz_cert_laws.proofs.Common.{codes, bytes_eq, lit<, lit≤, refl, sym, ◌∙◌, ap, subst, arith, append_assoc, Option, Some, None}
+use Rattle.uz_cert_laws.proofs.Common.{Result, Ok, Err, cut_at, cut_read, cut_again, ◌>>=◌, one_number, two_numbers, range, raw_of}
+use Rattle.uz_cert_laws.proofs.Common.{FactForms, Raw, CertWhy, slope_word}
+use Rattle.uz_cert_lines.specs.Values.{whole, slope, sloped_parts, sloped_cut, sloped, old, range_parts, range_cut}
 use Rattle.uz_cert_lines.specs.declared.values.Raw.TheVariants as raw
-use Rattle.uz_cert_lines.specs.declared.why.CertWhy.{CertWhy}
 use Rattle.uz_cert_lines.specs.declared.why.CertWhy.TheVariants as why
-use Rattle.uz_cert_writer.specs.Spelling.{slope_word}
 use Rattle.uz_cert_laws.proofs.Tests.{tested, and_true, both_true, fine, fine_is, passed, so, else_so, bind_ok, then, lt_is, is_lt, number_is, not_number}
 use Rattle.uz_cert_laws.proofs.Tests.{word_is}
 use Rattle.uz_cert_laws.proofs.Numbers.{one_only, one_so, two_only, two_so, first_digit, decimal_lacks_below, cut_none}

@@ -1,18 +1,12 @@
 -- The line of a rest.
-use Rattle.std.proofs.Common.{refl, ◌≡◌, ℕ, ◌≤◌, ◌∷◌, map, decimal, codes, lit≤}
-use Rattle.std.proofs.Common.{sym, ◌∙◌, ap, append-nil, arith}
-use Rattle.std.specs.Prelude.{Ok}
-use Rattle.uz_schedule.specs.Limits.{clock_limit}
+use Rattle.uz_cert_laws.proofs.Common.{refl, ◌≡◌, ℕ, ◌≤◌, ◌∷◌, map, decimal, codes, lit≤, sym, ◌∙◌, ap, append-nil, arith, Ok, clock_limit}
+use Rattle.uz_cert_laws.proofs.Common.{Head, Words, reads, ParsedLine, ends_word}
 use Rattle.uz_schedule.specs.WellFormed.{RestFits}
-use Rattle.uz_schedule.specs.declared.header.Head.{Head}
 use Rattle.uz_schedule.specs.declared.states.Rest.{Rest}
-use Rattle.uz_cert_lines.specs.Grammar.{Words}
-use Rattle.uz_cert_lines.specs.Forms.{reads}
 use Rattle.uz_cert_lines.specs.Lines.{rest_form}
-use Rattle.uz_cert_lines.specs.declared.lines.Said.{Said}
-use Rattle.uz_cert_lines.specs.declared.lines.Said.TheVariants as said
-use Rattle.uz_cert_writer.specs.Spelling.{ends_word, rest_words}
-use Rattle.uz_cert_laws.specs.Said.{line, PlacesAre}
+use Rattle.uz_cert_lines.specs.declared.lines.ParsedLine.TheVariants as parsed
+use Rattle.uz_cert_writer.specs.Spelling.{rest_words}
+use Rattle.uz_cert_laws.specs.LineWords.{line, PlacesAre}
 use Rattle.uz_cert_laws.proofs.Steps.{is_within as within_so, one_so, rising_so}
 use Rattle.uz_cert_laws.proofs.Spans.{bytes_of}
 use Rattle.uz_cert_laws.proofs.FormLaws.{IsReadable, form_again, form_only}
@@ -24,7 +18,7 @@ rest_sound h lines points least a =
     (refl, (omega arith, λ line i. (lit≤ tt, λ clock j. (omega arith, λ vector k. (bytes_of h h.cells.items a.each, λ es. tt)))))
 
 pub rest_again : (h : Head) (lines points least : ℕ) (r : Rest) → PlacesAre h lines points → RestFits h lines points r → least ≤ r.line
-    → reads (rest_form lines points h.cells.items least) (line (rest_words r)) ≡ Ok (said.Rest r)
+    → reads (rest_form lines points h.cells.items least) (line (rest_words r)) ≡ Ok (parsed.Rest r)
 rest_again h lines points least r a f l =
     let few : lines ≤ 525 = a.lines_few in
     let many : points ≤ 524288 = a.points_few in
@@ -39,9 +33,9 @@ rest_again h lines points least r a f l =
       ),
     )
 
-pub rest_only : (h : Head) (lines points least : ℕ) (words : Words) (says : Said) → PlacesAre h lines points
+pub rest_only : (h : Head) (lines points least : ℕ) (words : Words) (says : ParsedLine) → PlacesAre h lines points
     → reads (rest_form lines points h.cells.items least) words ≡ Ok says
-    → (r : Rest) × (says ≡ said.Rest r) × (words ≡ line (rest_words r)) × RestFits h lines points r × (least ≤ r.line)
+    → (r : Rest) × (says ≡ parsed.Rest r) × (words ≡ line (rest_words r)) × RestFits h lines points r × (least ≤ r.line)
 rest_only h lines points least words says a e =
     let r = form_only (rest_form lines points h.cells.items least) words says (rest_sound h lines points least a) e in
     let p = r.0 in

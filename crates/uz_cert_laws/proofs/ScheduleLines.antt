@@ -1,37 +1,30 @@
 -- The lines of kinds, events, the fall and runs, and the last line.
-use Rattle.std.proofs.Common.{◌≡◌, ℕ, zero, suc, ◌+◌, ◌<◌, ◌≤◌, ◌^◌, Bool, true, false, cond, eqb, List, [], ◌∷◌, decimal, codes, lit≤, refl, sym}
-use Rattle.std.proofs.Common.{◌∙◌, ap, arith}
-use Rattle.std.specs.Prelude.{Result, Ok}
-use Rattle.uz_schedule.specs.Limits.{clock_limit, most_events, is_length, KindFits, EventFits}
-use Rattle.uz_schedule.specs.Schedule.{scanline}
+use Rattle.uz_cert_laws.proofs.Common.{◌≡◌, ℕ, zero, suc, ◌+◌, ◌<◌, ◌≤◌, ◌^◌, Bool, true, false, cond, eqb, List, [], ◌∷◌, decimal, codes}
+use Rattle.uz_cert_laws.proofs.Common.{lit≤, refl, sym, ◌∙◌, ap, arith, Result, Ok, clock_limit, scanline, Words, choice_of, number, finish}
+use Rattle.uz_cert_laws.proofs.Common.{reads, within, ParsedLine, Version, First, Second, CertWhy}
+use Rattle.uz_schedule.specs.Limits.{most_events, is_length, KindFits, EventFits}
 use Rattle.uz_schedule.specs.declared.lines.Event.{Event}
 use Rattle.uz_schedule.specs.declared.lines.EventKind.{EventKind}
 use Rattle.uz_schedule.specs.declared.lines.EventKind.TheVariants.{Sync, Pixel, Sound, Leave}
-use Rattle.uz_cert_lines.specs.Grammar.{Words, choice_of}
-use Rattle.uz_cert_lines.specs.Forms.{number, finish, reads}
 use Rattle.uz_cert_lines.specs.Lines.{length_for, KindLineFits}
-use Rattle.uz_cert_lines.specs.Lines.{within, kind_form, event_after, event_form, fall_form, run_form, end_form}
+use Rattle.uz_cert_lines.specs.Lines.{kind_form, event_after, event_form, fall_form, run_form, end_form}
 use Rattle.uz_cert_lines.specs.declared.lines.KindLine.{KindLine}
 use Rattle.uz_cert_lines.specs.declared.lines.Run.{Run}
-use Rattle.uz_cert_lines.specs.declared.lines.Said.{Said}
-use Rattle.uz_cert_lines.specs.declared.lines.Said.TheVariants as said
-use Rattle.uz_cert_lines.specs.declared.version.Version.{Version}
-use Rattle.uz_cert_lines.specs.declared.version.Version.TheVariants.{First, Second}
-use Rattle.uz_cert_lines.specs.declared.why.CertWhy.{CertWhy}
+use Rattle.uz_cert_lines.specs.declared.lines.ParsedLine.TheVariants as parsed
 use Rattle.uz_cert_lines.proofs.Lengths.{length_few, least_length, no_other_length, length_asked}
 use Rattle.uz_cert_writer.specs.Spelling.{kind_words, event_words, event_kind_words, run_words}
-use Rattle.uz_cert_laws.specs.Said.{line, RunFits}
+use Rattle.uz_cert_laws.specs.LineWords.{line, RunFits}
 use Rattle.uz_cert_laws.specs.Spells.{word_at, Parts, says, spells}
-use Rattle.uz_cert_laws.proofs.Numbers.{IsAsked}
-use Rattle.uz_cert_laws.proofs.Steps.{is_within, rising_so, other_so}
+use Rattle.uz_cert_laws.proofs.Numbers.{IsWithin}
+use Rattle.uz_cert_laws.proofs.Steps.{apart, is_within, rising_so, other_so}
 use Rattle.uz_cert_laws.proofs.FormLaws.{Fit, IsReadable, form_again, form_only}
 
 -- kind
 
-abbrev told : Said → Result Said CertWhy
+abbrev told : ParsedLine → Result ParsedLine CertWhy
 told says = Ok says
 
-length_so : (events clocks : ℕ) → events ≤ clocks → is_length clocks ≡ true → IsAsked (length_for events) clocks
+length_so : (events clocks : ℕ) → events ≤ clocks → is_length clocks ≡ true → IsWithin (length_for events) clocks
 length_so events clocks few is =
     let most = length_few clocks is in
     record {
@@ -39,32 +32,29 @@ length_so events clocks few is =
       below = omega (arith, most);
       outside = no_other_length clocks is;
       least = omega arith;
-      other = apart clocks most;
+      other = apart clocks (omega (arith, most));
     }
-  where
-    apart : (n : ℕ) → n ≤ scanline → n ≡ 4294967295 → ⊥
-    apart n h e = omega arith
 
 pub kind_sound : (version : Version) → IsReadable (kind_form version)
 kind_sound First = (refl, (lit≤ tt, λ n i. tt))
 kind_sound Second = (refl, (lit≤ tt, λ n i. (lit≤ tt, λ m j. tt)))
 
 pub kind_again : (version : Version) (k : KindLine) → KindLineFits version k
-    → reads (kind_form version) (line (kind_words version k.events k.clocks)) ≡ told (said.Kind k)
+    → reads (kind_form version) (line (kind_words version k.events k.clocks)) ≡ told (parsed.Kind k)
 kind_again First k f =
     let few = f.few in
     let same = f.clocks in
     form_again (kind_form First) (k.events, tt) (kind_sound First)
     (is_within 1 (most_events + 1) k.events (lit≤ tt) f.some (omega (arith, few, same)), tt)
-    ∙ ap (λ (m : ℕ). told (said.Kind (record { events = k.events; clocks = m }))) (sym same)
+    ∙ ap (λ (m : ℕ). told (parsed.Kind (record { events = k.events; clocks = m }))) (sym same)
 kind_again Second k f =
     let few = f.few in
     let most = length_few k.clocks f.clocks in
     form_again (kind_form Second) (k.events, (k.clocks, tt)) (kind_sound Second)
     (is_within 1 (most_events + 1) k.events (lit≤ tt) f.some (omega (arith, few, most)), (length_so k.events k.clocks few f.clocks, tt))
 
-pub kind_only : (version : Version) (words : Words) (says : Said) → reads (kind_form version) words ≡ told says
-    → (k : KindLine) × (says ≡ said.Kind k) × (words ≡ line (kind_words version k.events k.clocks)) × KindLineFits version k
+pub kind_only : (version : Version) (words : Words) (says : ParsedLine) → reads (kind_form version) words ≡ told says
+    → (k : KindLine) × (says ≡ parsed.Kind k) × (words ≡ line (kind_words version k.events k.clocks)) × KindLineFits version k
 kind_only First words says e =
     let r = form_only (kind_form First) words says (kind_sound First) e in (
       record { events = r.0.0; clocks = scanline },
@@ -87,12 +77,12 @@ event_choices = codes "sync" ∷ codes "pixel" ∷ codes "sound" ∷ codes "leav
 after_sound : (clock n : ℕ) → IsReadable (event_after clock n)
 after_sound clock n = by (eqb n 0) (eqb n 1) (eqb n 2)
   where
-    by : (a b c : Bool) → IsReadable (cond a (number (within 0 2) (λ level. finish (said.Event (record { clock = clock; kind = Sync level }))))
-        (cond b (finish (said.Event (record { clock = clock; kind = Pixel }))) (cond c (finish (said.Event (record {
+    by : (a b c : Bool) → IsReadable (cond a (number (within 0 2) (λ level. finish (parsed.Event (record { clock = clock; kind = Sync level }))))
+        (cond b (finish (parsed.Event (record { clock = clock; kind = Pixel }))) (cond c (finish (parsed.Event (record {
           clock = clock;
           kind = Sound;
         })))
-        (finish (said.Event (record { clock = clock; kind = Leave }))))))
+        (finish (parsed.Event (record { clock = clock; kind = Leave }))))))
     by true b c = (lit≤ tt, λ l i. tt)
     by false true c = tt
     by false false true = tt
@@ -103,7 +93,7 @@ event_sound clocks least few =
     (omega (arith, few), λ clock i. ((refl, (refl, (refl, (refl, tt)))), λ n. after_sound clock n))
 
 event_so : (clocks least clock : ℕ) (kind : EventKind) → clocks ≤ scanline → KindFits kind → clock < clocks → least ≤ clock
-    → reads (event_form clocks least) (line (decimal clock ∷ event_kind_words kind)) ≡ told (said.Event (record { clock = clock; kind = kind }))
+    → reads (event_form clocks least) (line (decimal clock ∷ event_kind_words kind)) ≡ told (parsed.Event (record { clock = clock; kind = kind }))
 unfolding choice_of
 event_so clocks least clock (Sync level) few f b l =
     form_again (event_form clocks least) (clock, (0, (level, tt))) (event_sound clocks least few)
@@ -119,12 +109,12 @@ event_so clocks least clock Leave few f b l =
     (rising_so least clocks clock (omega (arith, few)) l b, (refl, tt))
 
 pub event_again : (clocks least : ℕ) (e : Event) → clocks ≤ scanline → EventFits e → e.clock < clocks → least ≤ e.clock
-    → reads (event_form clocks least) (line (event_words e)) ≡ told (said.Event e)
+    → reads (event_form clocks least) (line (event_words e)) ≡ told (parsed.Event e)
 event_again clocks least e few f b l = event_so clocks least e.clock e.kind few f.kind b l
 
 after_read : (clock n : ℕ) (p : Parts (event_after clock n)) → choice_of event_choices (word_at event_choices n) ≡ Ok n
     → Fit (event_after clock n) p
-    → (kind : EventKind) × (says (event_after clock n) p ≡ said.Event (record { clock = clock; kind = kind }))
+    → (kind : EventKind) × (says (event_after clock n) p ≡ parsed.Event (record { clock = clock; kind = kind }))
     × (word_at event_choices n ∷ spells (event_after clock n) p ≡ event_kind_words kind) × KindFits kind
 unfolding choice_of
 after_read clock zero p e f = (Sync p.0, refl, refl, omega (arith, f.0.below))
@@ -133,8 +123,8 @@ after_read clock (suc (suc zero)) p e f = (Sound, refl, refl, tt)
 after_read clock (suc (suc (suc zero))) p e f = (Leave, refl, refl, tt)
 after_read clock (suc (suc (suc (suc n)))) p e f = absurd cc
 
-pub event_only : (clocks least : ℕ) (words : Words) (says : Said) → clocks ≤ scanline → reads (event_form clocks least) words ≡ told says
-    → (e : Event) × (says ≡ said.Event e) × (words ≡ line (event_words e)) × EventFits e × (e.clock < clocks) × (least ≤ e.clock)
+pub event_only : (clocks least : ℕ) (words : Words) (says : ParsedLine) → clocks ≤ scanline → reads (event_form clocks least) words ≡ told says
+    → (e : Event) × (says ≡ parsed.Event e) × (words ≡ line (event_words e)) × EventFits e × (e.clock < clocks) × (least ≤ e.clock)
 event_only clocks least words says few e =
     let r = form_only (event_form clocks least) words says (event_sound clocks least few) e in
     let clock = r.0.0 in
@@ -155,11 +145,11 @@ fall_sound =
     (refl, (lit≤ tt, λ n i. tt))
 
 pub fall_again : (clock : ℕ) → 1 ≤ clock → clock < clock_limit → reads fall_form (line (codes "fall" ∷ decimal clock ∷ [])) ≡ Ok
-    (said.Fall clock)
+    (parsed.Fall clock)
 fall_again n a b = form_again fall_form (n, tt) fall_sound (is_within 1 clock_limit n (lit≤ tt) a b, tt)
 
-pub fall_only : (words : Words) (says : Said) → reads fall_form words ≡ Ok says
-    → (clock : ℕ) × (says ≡ said.Fall clock) × (words ≡ line (codes "fall" ∷ decimal clock ∷ [])) × (1 ≤ clock) × (clock < clock_limit)
+pub fall_only : (words : Words) (says : ParsedLine) → reads fall_form words ≡ Ok says
+    → (clock : ℕ) × (says ≡ parsed.Fall clock) × (words ≡ line (codes "fall" ∷ decimal clock ∷ [])) × (1 ≤ clock) × (clock < clock_limit)
 fall_only words says e =
     let r = form_only fall_form words says fall_sound e in
     (r.0.0, r.1, r.2, r.3.0.low, r.3.0.below)
@@ -171,14 +161,14 @@ run_sound kinds left before k l =
     (refl, (omega arith, λ count i. (omega arith, λ kind j. tt)))
 
 pub run_again : (kinds left before count kind : ℕ) → kinds ≤ 2 ^ 31 → left < 2 ^ 31 → RunFits kinds left before count kind
-    → reads (run_form kinds left before) (line (run_words (count, kind))) ≡ Ok (said.Run (record { count = count; kind = kind }))
+    → reads (run_form kinds left before) (line (run_words (count, kind))) ≡ Ok (parsed.Run (record { count = count; kind = kind }))
 run_again kinds left before count kind k l f =
     form_again (run_form kinds left before) (count, (kind, tt)) (run_sound kinds left before k l)
     (is_within 1 (left + 1) count (omega arith) f.some (omega (arith, f.few)), (other_so kinds before kind f.there f.other, tt))
 
-pub run_only : (kinds left before : ℕ) (words : Words) (says : Said) → kinds ≤ 2 ^ 31 → left < 2 ^ 31 → reads (run_form kinds left before)
+pub run_only : (kinds left before : ℕ) (words : Words) (says : ParsedLine) → kinds ≤ 2 ^ 31 → left < 2 ^ 31 → reads (run_form kinds left before)
     words ≡ Ok says
-    → (r : Run) × (says ≡ said.Run r) × (words ≡ line (run_words (r.count, r.kind))) × RunFits kinds left before r.count r.kind
+    → (r : Run) × (says ≡ parsed.Run r) × (words ≡ line (run_words (r.count, r.kind))) × RunFits kinds left before r.count r.kind
 run_only kinds left before words says k l e =
     let r = form_only (run_form kinds left before) words says (run_sound kinds left before k l) e in
     let n = r.3.0 in
@@ -191,8 +181,8 @@ run_only kinds left before words says k l e =
 
 -- end
 
-pub end_again : reads end_form (line (codes "end" ∷ [])) ≡ Ok said.End
+pub end_again : reads end_form (line (codes "end" ∷ [])) ≡ Ok parsed.End
 end_again = form_again end_form tt (refl, tt) tt
 
-pub end_only : (words : Words) (says : Said) → reads end_form words ≡ Ok says → (says ≡ said.End) × (words ≡ line (codes "end" ∷ []))
+pub end_only : (words : Words) (says : ParsedLine) → reads end_form words ≡ Ok says → (says ≡ parsed.End) × (words ≡ line (codes "end" ∷ []))
 end_only words says e = let r = form_only end_form words says (refl, tt) e in (r.1, r.2)

@@ -1,8 +1,6 @@
 -- Items in sections, one after another: those of a section have places from its first on, and nothing of it is spelled before.
-use Rattle.std.proofs.Common.{◌≡◌, ℕ, zero, suc, ◌≤◌, Bool, true, false, ◌&&◌, leb, List, [], ◌∷◌, ◌++◌, map, drop, sym, ◌∙◌, ap, arith}
-use Rattle.std.proofs.Common.{append_assoc, append-nil}
-use Rattle.std.specs.Prelude.{Some, slice_get, slice_set}
-use Rattle.uz_cert_writer.specs.Spelling.{options}
+use Rattle.uz_cert_laws.proofs.Common.{◌≡◌, ℕ, zero, suc, ◌≤◌, Bool, true, false, ◌&&◌, leb, List, [], ◌∷◌, ◌++◌, map, drop, sym, ◌∙◌, ap}
+use Rattle.uz_cert_laws.proofs.Common.{arith, append_assoc, append-nil, Some, slice_get, slice_set, options}
 use Rattle.uz_cert_laws.proofs.Tests.{and_true, le_is}
 use Rattle.uz_cert_laws.proofs.Options.{Each, IsUsual, OptionList, AreOptions, each_length, each_map, each_set, no_options}
 use Rattle.uz_cert_laws.proofs.Options.{option_set, drop_set, drop_later, drop_none}
@@ -146,14 +144,3 @@ option_more {K} {A} o is m n i k x xs f at l b fits other =
           ∙ option_set o.is_usual o.word o.keys xs ds i k x count (all_usual o is) (drop_later xs ds (o.before m) i l f.1) at other
           ∙ ap (λ ws. ws ++ o.word k x ∷ []) (sym (is.words_are xs count)),
     )
-
--- a section of one value, which is left out where it is the default
-abbrev pub value_section : {A : Type 0} → (A → List (List ℕ)) → (A → Type 0) → A → ℕ → Section A
-value_section spelled Within usual start = record { words = spelled; Fits = λ m x. Within x × (m ≤ start → x ≡ usual); from = start }
-
-pub value_is : {A : Type 0} (spelled : A → List (List ℕ)) (Within : A → Type 0) (usual : A) (start : ℕ) → spelled usual ≡ []
-    → IsSection (value_section spelled Within usual start)
-value_is spelled Within usual start e = record {
-  later = λ m n x l f. (f.0, λ h. f.1 (omega (arith, l, h)));
-  empty = λ m x l f. ap spelled (f.1 l) ∙ e;
-}

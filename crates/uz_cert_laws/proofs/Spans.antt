@@ -1,21 +1,11 @@
 -- Ranges for the cells of the handler, one word for each.
-use Rattle.std.proofs.Common.{◌≡◌, ℕ, ◌≤◌, Bool, true, false, cond, List, [], ◌∷◌, ◌++◌, map, filter, refl, ◌∙◌, ap, subst}
-use Rattle.std.specs.Prelude.{All, Result, Ok}
-use Rattle.std.proofs.lemmas.List.Elements.{All-nil, All-cons, All-head, All-tail}
-use Rattle.uz_schedule.specs.Ends.{Ends, is_within}
-use Rattle.uz_schedule.specs.Tracked.{tracks}
-use Rattle.uz_schedule.specs.WellFormed.{RangeFits, CellFits, spans_fit}
-use Rattle.uz_schedule.specs.declared.kinds.Kind.TheVariants.{Handler}
-use Rattle.uz_schedule.specs.declared.header.Cell.{Cell}
-use Rattle.uz_schedule.specs.declared.header.Head.{Head}
-use Rattle.uz_cert_lines.specs.Why.{◌>>=◌}
-use Rattle.uz_cert_lines.specs.Grammar.{Words, rest_of, next_as}
-use Rattle.uz_cert_lines.specs.Values.{span_of}
-use Rattle.uz_cert_lines.specs.Forms.{with_span, spans_of}
-use Rattle.uz_cert_lines.specs.declared.why.CertWhy.{CertWhy}
+use Rattle.uz_cert_laws.proofs.Common.{◌≡◌, ℕ, ◌≤◌, Bool, true, false, cond, List, [], ◌∷◌, ◌++◌, map, filter, refl, ◌∙◌, ap, subst, Result}
+use Rattle.uz_cert_laws.proofs.Common.{Ok, All-nil, All-cons, All-head, All-tail, Ends, is_within, tracks, RangeFits, CellFits, spans_fit}
+use Rattle.uz_cert_laws.proofs.Common.{Handler, Cell, Head, ◌>>=◌, Words, rest_of, next_as, span_of, spans_of, CertWhy, ends_word}
+use Rattle.std.specs.Prelude.{All}
+use Rattle.uz_cert_lines.specs.Forms.{with_span}
 use Rattle.uz_cert_lines.specs.declared.why.CertWhy.TheVariants as why
-use Rattle.uz_cert_writer.specs.Spelling.{ends_word}
-use Rattle.uz_cert_laws.specs.Said.{line}
+use Rattle.uz_cert_laws.specs.LineWords.{line}
 use Rattle.uz_cert_laws.proofs.Tests.{fine, fault_not, and_true, both_true, bind_ok, then}
 use Rattle.uz_cert_laws.proofs.Facts.{span_only, span_so}
 use Rattle.uz_cert_laws.proofs.Steps.{words_in}

@@ -1,27 +1,17 @@
 -- The items that facts are spelled as: registers, pairs, flags and cells as lists of optional items.
-use Rattle.std.proofs.Common.{◌≡◌, ℕ, zero, suc, ◌+◌, ◌<◌, ◌≤◌, Bool, true, false, cond, ◌&&◌, eqb, List, [], ◌∷◌, map, length, decimal}
-use Rattle.std.proofs.Common.{lit≤, refl, sym, ◌∙◌, ap, subst, add-one, arith}
-use Rattle.std.specs.Prelude.{Option, Some, slice_get}
-use Rattle.uz_schedule.specs.Ends.{Ends}
-use Rattle.uz_schedule.specs.Tracked.{tracks}
-use Rattle.uz_schedule.specs.WellFormed.{is_default_flag}
-use Rattle.uz_schedule.specs.declared.kinds.Kind.{Kind}
-use Rattle.uz_schedule.specs.declared.kinds.Kind.TheVariants.{Main, Handler, Alone}
-use Rattle.uz_schedule.specs.declared.header.Cell.{Cell}
-use Rattle.uz_schedule.specs.declared.facts.Fact.{Fact}
-use Rattle.uz_schedule.specs.declared.facts.Fact.TheVariants.{Any, Between, Line, Loop, Old, OldFlags}
-use Rattle.uz_schedule.specs.declared.facts.PairFact.{PairFact}
+use Rattle.uz_cert_laws.proofs.Common.{◌≡◌, ℕ, zero, suc, ◌+◌, ◌<◌, ◌≤◌, Bool, true, false, cond, ◌&&◌, eqb, List, [], ◌∷◌, map, length}
+use Rattle.uz_cert_laws.proofs.Common.{decimal, lit≤, refl, sym, ◌∙◌, ap, subst, add-one, arith, Option, Some, slice_get, Ends, tracks}
+use Rattle.uz_cert_laws.proofs.Common.{is_default_flag, Kind, Main, Handler, Alone, Cell, Fact, Any, Between, Line, Loop, Old, OldFlags}
+use Rattle.uz_cert_laws.proofs.Common.{PairFact, Bit, Zero, One, Free, is_default, is_any_pair, is_range, range_fact, default_flag}
+use Rattle.uz_cert_laws.proofs.Common.{tracked_before, Shape, options, numbers_from, item, unless, fact_word, register_item, register_items}
+use Rattle.uz_cert_laws.proofs.Common.{cell_items}
 use Rattle.uz_schedule.specs.declared.facts.PairFact.TheVariants.{Any as AnyPair, Between as BetweenPair, Line as LinePair}
 use Rattle.uz_schedule.specs.declared.facts.PairFact.TheVariants.{Loop as LoopPair}
-use Rattle.uz_schedule.specs.declared.facts.Bit.{Bit}
-use Rattle.uz_schedule.specs.declared.facts.Bit.TheVariants.{Zero, One, Free, Old as OldBit}
-use Rattle.uz_cert_lines.specs.Defaults.{is_default, is_any_pair, is_range, range_fact}
-use Rattle.uz_cert_lines.specs.Items.{own_regs, any_regs, default_regs, default_flag, default_cells, tracked_before}
-use Rattle.uz_cert_lines.specs.declared.items.Shape.{Shape}
-use Rattle.uz_cert_writer.specs.Spelling.{options, numbers_from, item, unless, fact_word, register_item, register_items, cell_items}
+use Rattle.uz_schedule.specs.declared.facts.Bit.TheVariants.{Old as OldBit}
+use Rattle.uz_cert_lines.specs.Items.{own_regs, any_regs, default_regs, default_cells}
 use Rattle.uz_cert_laws.proofs.Tests.{and_true, both_true, number_is, same_number, so, else_so}
 use Rattle.uz_cert_laws.proofs.Facts.{FactIn, part_not_whole}
-use Rattle.uz_cert_laws.proofs.Taken.{cell_form}
+use Rattle.uz_cert_laws.proofs.ItemForms.{cell_form}
 
 -- the keys: registers by number, pairs and flags by letter, cells by number
 

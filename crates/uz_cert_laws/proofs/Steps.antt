@@ -1,14 +1,14 @@
 -- Words that are read as what is due, and numbers within limits.
-use Rattle.std.proofs.Common.{◌≡◌, inr, ℕ, zero, suc, ◌+◌, ◌<◌, ◌≤◌, ◌≢◌, ◌^◌, Bool, true, false, cond, List, [], ◌∷◌, bytes_eq, ltb, refl}
-use Rattle.std.proofs.Common.{sym, ◌∙◌, ap, arith}
-use Rattle.std.specs.Prelude.{Some, Ok, Err, slice_get}
-use Rattle.uz_cert_lines.specs.Grammar.{Words, fixed_of, choice_from, choice_of}
-use Rattle.uz_cert_lines.specs.Lines.{within, one_of, rising, least_of}
+use Rattle.uz_cert_laws.proofs.Common.{◌≡◌, inr, ℕ, zero, suc, ◌+◌, ◌<◌, ◌≤◌, ◌≢◌, ◌^◌, Bool, true, false, cond, List, [], ◌∷◌, bytes_eq}
+use Rattle.uz_cert_laws.proofs.Common.{ltb, refl, sym, ◌∙◌, ap, arith, Some, Ok, Err, slice_get, Words, fixed_of, choice_of, within, one_of}
+use Rattle.uz_cert_laws.proofs.Common.{least_of}
+use Rattle.uz_cert_lines.specs.Grammar.{choice_from}
+use Rattle.uz_cert_lines.specs.Lines.{rising}
 use Rattle.uz_cert_lines.specs.declared.why.CertWhy.TheVariants as why
-use Rattle.uz_cert_laws.specs.Said.{line}
+use Rattle.uz_cert_laws.specs.LineWords.{line}
 use Rattle.uz_cert_laws.specs.Spells.{word_at}
 use Rattle.uz_cert_laws.proofs.Tests.{fine_is, fault_not, passed, so, word_is, same_word, lt_is, not_lt}
-use Rattle.uz_cert_laws.proofs.Numbers.{IsAsked}
+use Rattle.uz_cert_laws.proofs.Numbers.{IsWithin}
 
 abbrev pub words_in : List (List ℕ) → Bool → Words
 words_in list ended = record { list = list; ended = ended }
@@ -59,12 +59,12 @@ with_front list ws vs w v e f g = e ∙ ap (λ x. x ∷ ws) f ∙ ap (λ xs. v �
 
 -- numbers within limits
 
-pub is_within : (low limit n : ℕ) → limit ≤ 2 ^ 31 → low ≤ n → n < limit → IsAsked (within low limit) n
+pub apart : (n : ℕ) → n < 2 ^ 31 → n ≢ 4294967295
+apart n h e = omega arith
+
+pub is_within : (low limit n : ℕ) → limit ≤ 2 ^ 31 → low ≤ n → n < limit → IsWithin (within low limit) n
 is_within low limit n l a b =
     record { low = a; below = b; outside = inr (omega arith); least = omega arith; other = apart n (omega arith) }
-  where
-    apart : (n : ℕ) → n < 2 ^ 31 → n ≡ 4294967295 → ⊥
-    apart n h e = omega arith
 
 pub under_both : (a b n : ℕ) → n < a → n < b → n < least_of a b
 under_both a b n h k = by_test (ltb a b)
@@ -87,16 +87,13 @@ least_small a b h = by_test (ltb a b) refl
     by_test true e = h
     by_test false e = let less : b ≤ a = not_lt a b e in omega arith
 
-apart : (n : ℕ) → n < 2 ^ 31 → n ≢ 4294967295
-apart n h e = omega arith
-
-pub one_so : (count n : ℕ) → count ≤ 2 ^ 31 → n < count → IsAsked (one_of count) n
+pub one_so : (count n : ℕ) → count ≤ 2 ^ 31 → n < count → IsWithin (one_of count) n
 one_so count n h b =
     record { low = omega arith; below = b; outside = inr (omega arith); least = omega arith; other = apart n (omega arith) }
 
-pub rising_so : (least limit n : ℕ) → limit ≤ 2 ^ 31 → least ≤ n → n < limit → IsAsked (rising least (within 0 limit)) n
+pub rising_so : (least limit n : ℕ) → limit ≤ 2 ^ 31 → least ≤ n → n < limit → IsWithin (rising least (within 0 limit)) n
 rising_so least limit n h l b =
     record { low = omega arith; below = b; outside = inr (omega arith); least = l; other = apart n (omega arith) }
 
-pub other_so : (kinds before n : ℕ) → n < kinds → n ≢ before → IsAsked (record (one_of kinds) { other = before }) n
+pub other_so : (kinds before n : ℕ) → n < kinds → n ≢ before → IsWithin (record (one_of kinds) { other = before }) n
 other_so kinds before n b o = record { low = omega arith; below = b; outside = inr (omega arith); least = omega arith; other = o }

@@ -1,11 +1,7 @@
 -- Tests, and what their answers tell.
-use Rattle.std.proofs.Common.{◌≡◌, ◌⊎◌, inl, inr, ℕ, ◌<◌, ◌≤◌, ◌≢◌, Bool, true, false, cond, not, ◌&&◌, ◌||◌, eqb, leb, ltb, List, bytes_eq}
-use Rattle.std.proofs.Common.{refl, ◌∙◌, ap, arith}
-use Rattle.std.specs.Prelude.{Result, Ok, Err}
-use Rattle.std.proofs.lemmas.Bool.Decides.{nat_tests}
+use Rattle.uz_cert_laws.proofs.Common.{◌≡◌, ◌⊎◌, inl, inr, ℕ, ◌<◌, ◌≤◌, ◌≢◌, Bool, true, false, cond, not, ◌&&◌, ◌||◌, eqb, leb, ltb, List}
+use Rattle.uz_cert_laws.proofs.Common.{bytes_eq, refl, ◌∙◌, ap, arith, Result, Ok, Err, nat_tests, ◌>>=◌, CertWhy}
 use Rattle.std.proofs.lemmas.Slice.Eq.{bytes_eq-Decides}
-use Rattle.uz_cert_lines.specs.Why.{◌>>=◌}
-use Rattle.uz_cert_lines.specs.declared.why.CertWhy.{CertWhy}
 
 pub and_true : (a b : Bool) → (a && b) ≡ true → (a ≡ true) × (b ≡ true)
 and_true true b e = (refl, e)
@@ -118,3 +114,7 @@ bind_ok (Err w) f b e = absurd cc
 pub then : {A B : Type 0} (m : Result A CertWhy) (f : A → Result B CertWhy) (a : A) (r : Result B CertWhy)
     → m ≡ Ok a → f a ≡ r → m >>= f ≡ r
 then m f a r e g = ap (λ s. s >>= f) e ∙ g
+
+-- a fact and a further one, in which nested pairs are written without a bracket for each
+pub both_of : {A B : Type 0} → A → B → A × B
+both_of a b = (a, b)

@@ -1,12 +1,11 @@
 -- A line is cut into its words, and its words are joined to the line.
-use Rattle.std.proofs.Common.{◌≡◌, ℕ, ◌<◌, Bool, true, false, cond, eqb, List, [], ◌∷◌, length, refl, ◌∙◌, ap, arith}
+use Rattle.uz_cert_laws.proofs.Common.{◌≡◌, ℕ, ◌<◌, Bool, true, false, cond, eqb, List, [], ◌∷◌, length, refl, ◌∙◌, ap, arith, All-head}
+use Rattle.uz_cert_laws.proofs.Common.{All-tail, Lacks, words_of, line_of}
 use Rattle.std.specs.Prelude.{All}
 use Rattle.std.specs.List.{slice_split, onto_first, join_with_byte}
 use Rattle.std.proofs.lemmas.List.Splits.{join_with_byte-slice_split}
-use Rattle.std.proofs.lemmas.List.Elements.{All-head, All-tail}
-use Rattle.uz_hex.proofs.Plain.{Lacks, EachLacks, split_join}
-use Rattle.uz_cert_lines.specs.Grammar.{with_byte, cut_words, words_of}
-use Rattle.uz_cert_writer.specs.Spelling.{line_of}
+use Rattle.uz_hex.proofs.Plain.{EachLacks, split_join}
+use Rattle.uz_cert_lines.specs.Grammar.{with_byte, cut_words}
 
 onto : (b : ℕ) (parts : List (List ℕ)) (t : Bool) → cond t ([] ∷ parts) (with_byte b parts) ≡ cond t ([] ∷ parts) (onto_first b parts)
 onto b parts true = refl

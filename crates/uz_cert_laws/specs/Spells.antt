@@ -6,9 +6,10 @@ use Rattle.uz_schedule.specs.declared.kinds.Kind.{Kind}
 use Rattle.uz_schedule.specs.declared.header.Cell.{Cell}
 use Rattle.uz_cert_lines.specs.Forms.{LineForm, fixed, number, choice, slope, spans, items, finish}
 use Rattle.uz_cert_lines.specs.declared.items.Facts.{Facts}
-use Rattle.uz_cert_lines.specs.declared.lines.Said.{Said}
+use Rattle.uz_cert_lines.specs.declared.lines.ParsedLine.{ParsedLine}
 use Rattle.uz_cert_writer.specs.Spelling.{ends_word, signed_word, register_items, pair_items, flag_items, slot_items, cell_items}
-use Rattle.uz_cert_writer.specs.Spelling.{top_items, temp_items, successor_items}
+use Rattle.uz_cert_writer.specs.Spelling.{listed_items, successor_items}
+use Rattle.uz_cert_lines.specs.Named.{named_items, named_of}
 
 abbrev pub word_at : List (List ℕ) → ℕ → List ℕ
 word_at [] n = []
@@ -23,8 +24,8 @@ letters_of_flags = codes "cznvsht"
 
 -- the items of facts, in the order of a line
 
-abbrev pub timer_and_next : Facts → List (List ℕ)
-timer_and_next f = top_items f.top ++ (temp_items f.temp ++ successor_items f.next.items)
+abbrev pub listed_and_next : Facts → List (List ℕ)
+listed_and_next f = listed_items named_items (named_of f) ++ successor_items f.next.items
 
 abbrev pub spelled : Kind → List Cell → Facts → List (List ℕ)
 spelled kind cells f =
@@ -33,7 +34,7 @@ spelled kind cells f =
     ++ (flag_items kind letters_of_flags f.flags
     ++ (slot_items f.stack.items
     ++ (cell_items kind 0 cells f.cells.items
-    ++ timer_and_next f))))
+    ++ listed_and_next f))))
 
 -- what is said at the places of a form, one after another
 abbrev pub Parts : LineForm → Type 0
@@ -46,7 +47,7 @@ Parts (items shape cells say) = Facts
 Parts (finish says) = ⊤
 
 -- what the line says with these parts
-abbrev pub says : (form : LineForm) → Parts form → Said
+abbrev pub says : (form : LineForm) → Parts form → ParsedLine
 says (fixed wanted form) p = says form p
 says (number a form) p = says (form p.0) p.1
 says (choice wanted form) p = says (form p.0) p.1

@@ -8,10 +8,10 @@ use Rattle.uz_cert_lines.specs.Forms.{LineForm, fixed, number, choice, slope, sp
 use Rattle.uz_cert_lines.specs.FirstFault.{NextIs, NextFails, Allows, HasFirstFault}
 use Rattle.uz_cert_lines.proofs.ItemLaws.{items_say, say_items, items_fail, fail_items}
 use Rattle.uz_cert_lines.proofs.Steps.{bind_ok, bind_err, refusal}
-use Rattle.uz_cert_lines.specs.declared.lines.Said.{Said}
+use Rattle.uz_cert_lines.specs.declared.lines.ParsedLine.{ParsedLine}
 use Rattle.uz_cert_lines.specs.declared.why.CertWhy.{CertWhy}
 
-abbrev answer : Said → Result Said CertWhy
+abbrev answer : ParsedLine → Result ParsedLine CertWhy
 answer said = Ok said
 
 -- the next word
@@ -52,7 +52,7 @@ end_zero false (w ∷ ws) n e = absurd cc
 
 -- what is read is allowed, and what is allowed is read
 
-pub read_allowed : (form : LineForm) (words : Words) (said : Said) → reads form words ≡ Ok said → Allows form words said
+pub read_allowed : (form : LineForm) (words : Words) (said : ParsedLine) → reads form words ≡ Ok said → Allows form words said
 read_allowed (fixed wanted form) words said e =
     let m = bind_ok (next_as (fixed_of wanted) words) (λ n. reads form (rest_of words)) said e in
     (m.0, next_is (fixed_of wanted) words m.0 m.1, read_allowed form (rest_of words) said m.2)
@@ -73,16 +73,16 @@ read_allowed (items shape cells say) words said e =
     let same : say m.0 ≡ said = ok_same (say m.0) said m.2 in
     (m.0, items_say shape cells words m.0 m.1, sym same)
   where
-    ok_same : (a b : Said) → answer a ≡ answer b → a ≡ b
+    ok_same : (a b : ParsedLine) → answer a ≡ answer b → a ≡ b
     ok_same a b e = cc
 read_allowed (finish says) words said e =
     let m = bind_ok (end_of words.ended words.list) (λ n. Ok says) said e in
     (end_zero words.ended words.list m.0 m.1, sym (ok_same says said m.2))
   where
-    ok_same : (a b : Said) → answer a ≡ answer b → a ≡ b
+    ok_same : (a b : ParsedLine) → answer a ≡ answer b → a ≡ b
     ok_same a b e = cc
 
-pub allowed_read : (form : LineForm) (words : Words) (said : Said) → Allows form words said → reads form words ≡ Ok said
+pub allowed_read : (form : LineForm) (words : Words) (said : ParsedLine) → Allows form words said → reads form words ≡ Ok said
 allowed_read (fixed wanted form) words said h =
     ap (λ m. m >>= (λ n. reads form (rest_of words))) (is_next (fixed_of wanted) words h.0 h.1) ∙ allowed_read form (rest_of words) said h.2
 allowed_read (number a form) words said h =
@@ -135,12 +135,12 @@ refused_faulty (items shape cells say) words w e =
       | inr m ↦ absurd (ok_not_err (say m.0) w m.2)
     ]
   where
-    ok_not_err : (a : Said) (v : CertWhy) → Ok a ≡ Err v → ⊥
+    ok_not_err : (a : ParsedLine) (v : CertWhy) → Ok a ≡ Err v → ⊥
     ok_not_err a v e = cc
 refused_faulty (finish says) words w e =
     elim (bind_err (end_of words.ended words.list) (λ n. Ok says) w e) [ inl m ↦ m | inr m ↦ absurd (ok_not_err says w m.2) ]
   where
-    ok_not_err : (a : Said) (v : CertWhy) → Ok a ≡ Err v → ⊥
+    ok_not_err : (a : ParsedLine) (v : CertWhy) → Ok a ≡ Err v → ⊥
     ok_not_err a v e = cc
 
 pub faulty_refused : (form : LineForm) (words : Words) (w : CertWhy) → HasFirstFault form words w → reads form words ≡ Err w
@@ -178,28 +178,28 @@ faulty_refused (finish says) words w h = ap (λ m. m >>= (λ n. Ok says)) h
 
 -- each line is allowed or has a first fault
 
-pub decided : (form : LineForm) (words : Words) → ((said : Said) × Allows form words said) ⊎ ((w : CertWhy) × HasFirstFault form words w)
+pub decided : (form : LineForm) (words : Words) → ((said : ParsedLine) × Allows form words said) ⊎ ((w : CertWhy) × HasFirstFault form words w)
 decided form words = by_answer (reads form words) refl
   where
-    by_answer : (r : Result Said CertWhy) → reads form words ≡ r
-        → ((said : Said) × Allows form words said) ⊎ ((w : CertWhy) × HasFirstFault form words w)
+    by_answer : (r : Result ParsedLine CertWhy) → reads form words ≡ r
+        → ((said : ParsedLine) × Allows form words said) ⊎ ((w : CertWhy) × HasFirstFault form words w)
     by_answer (Ok said) e = inl (said, read_allowed form words said e)
     by_answer (Err w) e = inr (w, refused_faulty form words w e)
 
-pub one_said : (form : LineForm) (words : Words) (a b : Said) → Allows form words a → Allows form words b → a ≡ b
+pub one_said : (form : LineForm) (words : Words) (a b : ParsedLine) → Allows form words a → Allows form words b → a ≡ b
 one_said form words a b p q = ok_same a b (sym (allowed_read form words a p) ∙ allowed_read form words b q)
   where
-    ok_same : (a b : Said) → answer a ≡ answer b → a ≡ b
+    ok_same : (a b : ParsedLine) → answer a ≡ answer b → a ≡ b
     ok_same a b e = cc
 
 pub one_fault : (form : LineForm) (words : Words) (v w : CertWhy) → HasFirstFault form words v → HasFirstFault form words w → v ≡ w
 one_fault form words v w p q = err_same v w (sym (faulty_refused form words v p) ∙ faulty_refused form words w q)
   where
-    err_same : (a b : CertWhy) → refusal Said a ≡ refusal Said b → a ≡ b
+    err_same : (a b : CertWhy) → refusal ParsedLine a ≡ refusal ParsedLine b → a ≡ b
     err_same a b e = cc
 
-pub not_both : (form : LineForm) (words : Words) (said : Said) (w : CertWhy) → Allows form words said → HasFirstFault form words w → ⊥
+pub not_both : (form : LineForm) (words : Words) (said : ParsedLine) (w : CertWhy) → Allows form words said → HasFirstFault form words w → ⊥
 not_both form words said w p q = ok_not_err said w (sym (allowed_read form words said p) ∙ faulty_refused form words w q)
   where
-    ok_not_err : (a : Said) (v : CertWhy) → Ok a ≡ Err v → ⊥
+    ok_not_err : (a : ParsedLine) (v : CertWhy) → Ok a ≡ Err v → ⊥
     ok_not_err a v e = cc

@@ -1,7 +1,6 @@
--- What is said of registers, pairs, cells and the timer where a line says nothing of them.
-use Rattle.std.specs.Prelude.{ℕ, ◌-◌, ◌==◌, ◌&&◌, Bool, true, false, if◌then◌else◌}
+-- What is said of registers, pairs and cells where a line says nothing of them.
+use Rattle.std.specs.Prelude.{ℕ, ◌==◌, ◌&&◌, Bool, true, false, if◌then◌else◌}
 use Rattle.uz_schedule.specs.Ends.{Ends}
-use Rattle.uz_schedule.specs.Schedule.{scanline}
 use Rattle.uz_schedule.specs.declared.kinds.Kind.{Kind}
 use Rattle.uz_schedule.specs.declared.kinds.Kind.TheVariants.{Main, Handler, Alone}
 use Rattle.uz_schedule.specs.declared.facts.Fact.{Fact}
@@ -50,11 +49,3 @@ is_range range OldFlags = false
 -- a range as a fact: the whole range is any byte
 abbrev pub range_fact : Ends → Fact
 range_fact e = if e.lo == 0 && e.hi == 255 then Any else Between e
-
--- by default OCR1A is the last clock of a scanline, and TEMP any byte
-
-abbrev pub is_default_top : ℕ → Bool
-is_default_top top = top == scanline - 1
-
-abbrev pub is_default_temp : Ends → Bool
-is_default_temp temp = temp.lo == 0 && temp.hi == 255

@@ -7,7 +7,7 @@ use Rattle.uz_cert_lines.specs.Grammar.{Words, rest_of, missing, fixed_of, numbe
 use Rattle.uz_cert_lines.specs.Items.{first_facts, take_item}
 use Rattle.uz_cert_lines.specs.Forms.{LineForm, fixed, number, choice, slope, spans, items, finish, spans_of}
 use Rattle.uz_cert_lines.specs.declared.items.Facts.{Facts}
-use Rattle.uz_cert_lines.specs.declared.lines.Said.{Said}
+use Rattle.uz_cert_lines.specs.declared.lines.ParsedLine.{ParsedLine}
 use Rattle.uz_cert_lines.specs.declared.items.Shape.{Shape}
 use Rattle.uz_schedule.specs.declared.header.Cell.{Cell}
 use Rattle.uz_cert_lines.specs.declared.why.CertWhy.{CertWhy}
@@ -49,7 +49,7 @@ ItemsFail shape cells ended facts (w ∷ ws) why =
     ⊎ ((more : Facts) × (take_item shape cells facts w ws ≡ Ok more) × ItemsFail shape cells ended more ws why)
 
 -- all words of a line are as its form asks, and say this
-abbrev pub Allows : LineForm → Words → Said → Type 0
+abbrev pub Allows : LineForm → Words → ParsedLine → Type 0
 Allows (fixed wanted form) words said = (n : ℕ) × NextIs (fixed_of wanted) words n × Allows form (rest_of words) said
 Allows (number a form) words said = (n : ℕ) × NextIs (number_of a) words n × Allows (form n) (rest_of words) said
 Allows (choice wanted form) words said = (n : ℕ) × NextIs (choice_of wanted) words n × Allows (form n) (rest_of words) said

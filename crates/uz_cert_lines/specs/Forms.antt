@@ -8,10 +8,10 @@ use Rattle.uz_cert_lines.specs.Grammar.{Words, rest_of, next_as, fixed_of, numbe
 use Rattle.uz_cert_lines.specs.Values.{span_of}
 use Rattle.uz_cert_lines.specs.Items.{read_items}
 use Rattle.uz_schedule.specs.Tracked.{tracks}
-use Rattle.uz_cert_lines.specs.declared.words.Asked.{Asked}
+use Rattle.uz_cert_lines.specs.declared.words.NumberBounds.{NumberBounds}
 use Rattle.uz_cert_lines.specs.declared.items.Shape.{Shape}
 use Rattle.uz_cert_lines.specs.declared.items.Facts.{Facts}
-use Rattle.uz_cert_lines.specs.declared.lines.Said.{Said}
+use Rattle.uz_cert_lines.specs.declared.lines.ParsedLine.{ParsedLine}
 use Rattle.uz_cert_lines.specs.declared.why.CertWhy.{CertWhy}
 
 -- a range for each cell of the handler
@@ -28,14 +28,14 @@ spans_of (c ∷ cs) words =
 
 pub data LineForm : Type 0 where
   fixed : List ℕ → LineForm → LineForm
-  number : Asked → (ℕ → LineForm) → LineForm
+  number : NumberBounds → (ℕ → LineForm) → LineForm
   choice : List (List ℕ) → (ℕ → LineForm) → LineForm
   slope : ℕ → (ℤ → LineForm) → LineForm
   spans : List Cell → (List Ends → LineForm) → LineForm
-  items : Shape → List Cell → (Facts → Said) → LineForm
-  finish : Said → LineForm
+  items : Shape → List Cell → (Facts → ParsedLine) → LineForm
+  finish : ParsedLine → LineForm
 
-abbrev pub reads : LineForm → Words → Result Said CertWhy
+abbrev pub reads : LineForm → Words → Result ParsedLine CertWhy
 reads (fixed wanted form) words = next_as (fixed_of wanted) words >>= (λ n. reads form (rest_of words))
 reads (number a form) words = next_as (number_of a) words >>= (λ n. reads (form n) (rest_of words))
 reads (choice wanted form) words = next_as (choice_of wanted) words >>= (λ n. reads (form n) (rest_of words))

@@ -5,7 +5,7 @@ use Rattle.std.specs.Borrow.{Bor}
 use Rattle.std.specs.Coded.{Coded, code_by, coded×, coded_ℕ, coded_bool, coded_list}
 use Prim.Native.Char.{code}
 use Rattle.uz_hex.specs.Numbers.{is_numeral, number_below, number_within}
-use Rattle.uz_cert_lines.specs.declared.words.Asked.{Asked}
+use Rattle.uz_cert_lines.specs.declared.words.NumberBounds.{NumberBounds}
 use Rattle.uz_cert_lines.specs.declared.why.CertWhy.{CertWhy}
 use Rattle.uz_cert_lines.specs.declared.why.CertWhy.TheVariants as why
 
@@ -49,18 +49,18 @@ abbrev pub rest_of : Words → Words
 rest_of words = record { list = other_words words.list; ended = words.ended }
 
 -- a number within the limits, which is to be outside a hole in them, and then to keep the order
-abbrev pub asked : Asked → ℕ → Result ℕ CertWhy
+abbrev pub asked : NumberBounds → ℕ → Result ℕ CertWhy
 asked a n =
     if nat_le a.hole n && nat_lt n a.hole_end then Err why.Limit
     else (if nat_le a.least n && not (n == a.other) then Ok n else Err why.Order)
 
 -- a word that is no number, or one outside the limits
-abbrev pub number_or : Asked → Bool → Option ℕ → Result ℕ CertWhy
+abbrev pub number_or : NumberBounds → Bool → Option ℕ → Result ℕ CertWhy
 number_or a numeral (Some n) = asked a n
 number_or a true None = Err a.beyond
 number_or a false None = Err why.Number
 
-unfoldable pub number_of : Asked → List ℕ → Result ℕ CertWhy
+unfoldable pub number_of : NumberBounds → List ℕ → Result ℕ CertWhy
 number_of a w = number_or a (is_numeral w) (number_within a.low a.limit w)
 
 -- a number with a sign before it where it is below 0

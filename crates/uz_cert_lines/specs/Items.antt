@@ -1,13 +1,11 @@
--- The items of a line, as they are read: each sets one fact, in the order of registers, pairs, flags, slots, cells, timer,
--- successors.
+-- The items of a line, as they are read: each sets one fact, in the order of registers, pairs, flags, slots, cells, those
+-- of a name and one value, successors.
 use Rattle.std.specs.Prelude.{ℕ, zero, suc, ◌+◌, ◌-◌, ◌==◌, ◌&&◌, ◌||◌, not, nat_le, nat_lt, Bool, true, false, List, [], ◌∷◌, ◌++◌, length}
 use Rattle.std.specs.Prelude.{take, codes, bytes_eq, slice_get, slice_set, Option, Some, None, Result, Ok, Err, if◌then◌else◌}
 use Prim.Native.Char.{code}
 use Rattle.uz_hex.specs.Cutting.{cut_at}
 use Rattle.uz_hex.specs.Numbers.{is_numeral, number_below}
-use Rattle.uz_schedule.specs.Ends.{Ends, whole_byte}
-use Rattle.uz_schedule.specs.Limits.{is_top}
-use Rattle.uz_schedule.specs.Schedule.{scanline}
+use Rattle.uz_schedule.specs.Ends.{Ends}
 use Rattle.uz_schedule.specs.declared.kinds.Kind.{Kind}
 use Rattle.uz_schedule.specs.declared.kinds.Kind.TheVariants.{Main, Handler, Alone}
 use Rattle.uz_schedule.specs.declared.header.Cell.{Cell}
@@ -18,10 +16,12 @@ use Rattle.uz_schedule.specs.declared.facts.PairFact.TheVariants.{Any as AnyPair
 use Rattle.uz_schedule.specs.declared.facts.Bit.{Bit}
 use Rattle.uz_schedule.specs.declared.facts.Bit.TheVariants.{Free, Old as OldBit}
 use Rattle.uz_cert_lines.specs.Why.{◌>>=◌}
-use Rattle.uz_cert_lines.specs.Values.{digits, one_number, range, raw_of, fact_of, pair_of, ends_of, bit_of}
+use Rattle.uz_cert_lines.specs.Values.{digits, raw_of, fact_of, pair_of, bit_of}
+use Rattle.uz_cert_lines.specs.Named.{ValueOf, is_usual, value_read, NamedItem, named_items, named_place, successors_place}
+use Rattle.uz_cert_lines.specs.Named.{NamedValues, named_of, with_named, usual_facts}
 use Rattle.uz_cert_lines.specs.Grammar.{Words}
 use Rattle.uz_cert_lines.specs.FlagNames.{any_names}
-use Rattle.uz_cert_lines.specs.Defaults.{is_default, is_any_pair, is_range, is_default_top, range_fact}
+use Rattle.uz_cert_lines.specs.Defaults.{is_default, is_any_pair, is_range, range_fact}
 use Rattle.uz_schedule.specs.Tracked.{tracks}
 use Rattle.uz_schedule.specs.WellFormed.{is_default_flag}
 use Rattle.uz_cert_lines.specs.declared.values.FactForms.{FactForms}
@@ -59,17 +59,11 @@ default_cells kind [] = []
 default_cells kind (c ∷ cs) = if tracks kind c.owner then range_fact c.range ∷ default_cells kind cs else default_cells kind cs
 
 unfoldable pub first_facts : Kind → List Cell → Facts
-first_facts kind cells = record {
-  least = 0;
-  after = 0;
+first_facts kind cells = record usual_facts {
   regs = default_regs kind;
   pairs = AnyPair ∷ AnyPair ∷ AnyPair ∷ [];
   flags = seven (default_flag kind);
-  stack = record { items = [] };
   cells = record { items = default_cells kind cells };
-  top = scanline - 1;
-  temp = whole_byte;
-  next = record { items = [] };
 }
 
 -- an item at a place of the order, which isn't a default
@@ -189,31 +183,36 @@ take_cell shape cells facts key value =
     >>= (λ raw. cell_value shape cells facts (cell_at cells (number_below (length cells) key)) raw)
     else Err why.Word
 
--- the timer: OCR1A, which is the last clock of a line, and the range of TEMP, which isn't spelled as the whole one
+-- items of one value that have a name
 
-abbrev pub top_set : Facts → ℕ → Result Facts CertWhy
-top_set facts top = in_order facts 59 (is_default_top top) >>= (λ place. Ok (record facts { top = top; least = 60 }))
+abbrev pub value_set : (i : NamedItem) → Facts → ℕ → (ValueOf i.form → ℕ → Facts) → ValueOf i.form → Result Facts CertWhy
+value_set i facts place put x = in_order facts place (is_usual i.form x) >>= (λ p. Ok (put x (place + 1)))
 
-abbrev pub top_value : Facts → ℕ → Result Facts CertWhy
-top_value facts top = if is_top top then top_set facts top else Err why.Limit
+unfoldable pub take_value : (i : NamedItem) → Shape → Facts → ℕ → (ValueOf i.form → ℕ → Facts) → List ℕ → Result Facts CertWhy
+take_value i shape facts place put value =
+    if i.stands shape then value_read i.form value >>= (λ x. value_set i facts place put x) else Err why.Word
 
-unfoldable pub take_top : Shape → Facts → List ℕ → Result Facts CertWhy
-take_top shape facts value = if shape.timed then one_number 0 scanline value >>= (λ top. top_value facts top) else Err why.Word
+-- the one of this name, where the first has this place, and these are their values, in whose stead others are put
+abbrev pub take_listed : (is : List NamedItem) → ℕ → Shape → Facts → NamedValues is → (NamedValues is → ℕ → Facts) → List ℕ → List ℕ
+    → Result Facts CertWhy
+take_listed [] place shape facts v put key value = Err why.Word
+take_listed (i ∷ is) place shape facts v put key value =
+    if bytes_eq key i.key then take_value i shape facts place (λ x. put (x, v.1)) value
+    else take_listed is (place + 1) shape facts v.1 (λ later. put (v.0, later)) key value
 
-abbrev pub temp_forms : FactForms
-temp_forms = record { low = 0; limit = 256; top = 255; sloped = false; old = false }
+abbrev pub take_named_value : Shape → Facts → List ℕ → List ℕ → Result Facts CertWhy
+take_named_value shape facts key value =
+    take_listed named_items named_place shape facts (named_of facts) (with_named facts) key value
 
-abbrev pub temp_set : Facts → Ends → Result Facts CertWhy
-temp_set facts temp = in_order facts 60 false >>= (λ place. Ok (record facts { temp = temp; least = 61 }))
+-- the one at this place of the table
+abbrev pub take_nth : ℕ → (is : List NamedItem) → ℕ → Shape → Facts → NamedValues is → (NamedValues is → ℕ → Facts) → List ℕ
+    → Result Facts CertWhy
+take_nth n [] place shape facts v put value = Err why.Word
+take_nth zero (i ∷ is) place shape facts v put value = take_value i shape facts place (λ x. put (x, v.1)) value
+take_nth (suc n) (i ∷ is) place shape facts v put value = take_nth n is (place + 1) shape facts v.1 (λ later. put (v.0, later)) value
 
-unfoldable pub take_temp : Shape → Facts → List ℕ → Result Facts CertWhy
-take_temp shape facts value =
-    if shape.timed then range temp_forms value >>= (λ raw. ends_of raw >>= (λ temp. temp_set facts temp)) else Err why.Word
-
-abbrev pub take_timer : Shape → Facts → List ℕ → List ℕ → Result Facts CertWhy
-take_timer shape facts key value =
-    if bytes_eq key (codes "top") then take_top shape facts value
-    else (if bytes_eq key (codes "temp") then take_temp shape facts value else Err why.Word)
+abbrev pub take_numbered : ℕ → Shape → Facts → List ℕ → Result Facts CertWhy
+take_numbered n shape facts value = take_nth n named_items named_place shape facts (named_of facts) (with_named facts) value
 
 -- successors
 
@@ -221,7 +220,7 @@ abbrev pub successor_set : Facts → Option ℕ → Result Facts CertWhy
 successor_set facts None = Err why.Unknown
 successor_set facts (Some id) =
     if nat_le facts.after id
-    then Ok (record facts { next = record { items = facts.next.items ++ id ∷ [] }; after = id + 1; least = 61 })
+    then Ok (record facts { next = record { items = facts.next.items ++ id ∷ [] }; after = id + 1; least = successors_place })
     else Err why.Order
 
 unfoldable pub take_successor : Shape → Facts → List ℕ → Result Facts CertWhy
@@ -260,7 +259,7 @@ take_keyed shape cells facts [] value later = Err why.Word
 take_keyed shape cells facts (c ∷ cs) value later =
     if c == code "r" then take_register shape facts cs value
     else (if c == code "m" then take_cell shape cells facts cs value
-    else (if length cs == 0 then take_letter shape facts c value later else take_timer shape facts (c ∷ cs) value))
+    else (if length cs == 0 then take_letter shape facts c value later else take_named_value shape facts (c ∷ cs) value))
 
 abbrev pub take_cut : Shape → List Cell → Facts → Option (List ℕ × List ℕ) → List (List ℕ) → Result Facts CertWhy
 take_cut shape cells facts None later = Err why.Word

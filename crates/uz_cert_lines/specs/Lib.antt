@@ -3,6 +3,7 @@ pub mod FirstFault
 pub mod Forms
 pub mod Items
 pub mod Lines
+pub mod Named
 pub mod FlagNames
 pub mod Grammar
 pub mod Values

@@ -20,14 +20,15 @@ use Rattle.uz_schedule.specs.declared.states.Point.{Point}
 use Rattle.uz_schedule.specs.Tracked.{depth_of}
 use Rattle.uz_schedule.specs.WellFormed.{IsTimerLeftOut}
 use Rattle.uz_cert_lines.specs.Items.{is_handler}
+use Rattle.uz_cert_lines.specs.Named.{point_of}
 use Rattle.uz_cert_lines.specs.Values.{ends}
 use Rattle.uz_cert_lines.specs.Forms.{LineForm, fixed, number, choice, slope, spans, items, finish}
-use Rattle.uz_cert_lines.specs.declared.words.Asked.{Asked}
+use Rattle.uz_cert_lines.specs.declared.words.NumberBounds.{NumberBounds}
 use Rattle.uz_cert_lines.specs.declared.items.Shape.{Shape}
 use Rattle.uz_cert_lines.specs.declared.items.Facts.{Facts}
 use Rattle.uz_cert_lines.specs.declared.lines.KindLine.{KindLine}
 use Rattle.uz_cert_lines.specs.declared.lines.PointPlace.{PointPlace}
-use Rattle.uz_cert_lines.specs.declared.lines.Said.TheVariants as said
+use Rattle.uz_cert_lines.specs.declared.lines.ParsedLine.TheVariants as parsed
 use Rattle.uz_cert_lines.specs.declared.lines.Sizes.{Sizes}
 use Rattle.uz_cert_lines.specs.declared.version.Version.{Version}
 use Rattle.uz_cert_lines.specs.declared.version.Version.TheVariants.{First, Second}
@@ -39,15 +40,15 @@ head_line First = codes "uzcert 1"
 head_line Second = codes "uzcert 2"
 
 -- a number from low on and below limit
-abbrev pub within : ℕ → ℕ → Asked
+abbrev pub within : ℕ → ℕ → NumberBounds
 within low limit = record { low = low; limit = limit; beyond = why.Limit; hole = 0; hole_end = 0; least = 0; other = 4294967295 }
 
 -- the number of one of so many, which are counted from 0
-abbrev pub one_of : ℕ → Asked
+abbrev pub one_of : ℕ → NumberBounds
 one_of count = record { low = 0; limit = count; beyond = why.Unknown; hole = 0; hole_end = 0; least = 0; other = 4294967295 }
 
 -- the same, and at least so much to keep the order
-abbrev pub rising : ℕ → Asked → Asked
+abbrev pub rising : ℕ → NumberBounds → NumberBounds
 rising least a = record a { least = least }
 
 -- the lesser of two numbers
@@ -70,27 +71,27 @@ abbrev pub size_form : LineForm
 size_form =
     fixed (codes "size") (number (within 1 526) (λ kinds. number (within 1 526) (λ lines. number (within 0 (lines + 1)) (λ rests.
     number (within 1 524289) (λ points. number (within 0 17) (λ cells.
-    finish (said.Size (record { kinds = kinds; lines = lines; rests = rests; points = points; cells = cells }))))))))
+    finish (parsed.Size (record { kinds = kinds; lines = lines; rests = rests; points = points; cells = cells }))))))))
 
 abbrev pub response_of : ℕ → Response
 response_of n = if n == 4 then Four else Five
 
 -- irq R
 abbrev pub irq_form : LineForm
-irq_form = fixed (codes "irq") (number (within 4 6) (λ r. finish (said.Irq (response_of r))))
+irq_form = fixed (codes "irq") (number (within 4 6) (λ r. finish (parsed.Irq (response_of r))))
 
 -- stack LO HI MAIN HANDLER: the stack has room for what main and handler push and a return address
 abbrev pub stack_form : LineForm
 stack_form =
     fixed (codes "stack") (number (within 256 4351) (λ lo. number (within (lo + 1) 4352) (λ hi.
     number (within 0 (least_of 33 (hi - lo))) (λ main. number (within 0 (least_of 33 (hi - lo - main))) (λ handler.
-    finish (said.Stack (record { lo = lo; hi = hi; main = main; handler = handler })))))))
+    finish (parsed.Stack (record { lo = lo; hi = hi; main = main; handler = handler })))))))
 
 abbrev pub owner_of : ℕ → Owner
 owner_of n = if n == 0 then MainCell else HandlerCell
 
 -- an address of RAM, off the stack
-abbrev pub off_stack : ℕ → ℕ → ℕ → Asked
+abbrev pub off_stack : ℕ → ℕ → ℕ → NumberBounds
 off_stack lo hi least = record (within 256 4352) { hole = lo; hole_end = hi + 1; least = least }
 
 -- cell ADDRESS OWNER LO HI
@@ -98,10 +99,10 @@ abbrev pub cell_form : ℕ → ℕ → ℕ → LineForm
 cell_form lo hi least =
     fixed (codes "cell") (number (off_stack lo hi least) (λ at. choice (codes "main" ∷ codes "handler" ∷ []) (λ owner.
     number (within 0 256) (λ low. number (within low 256) (λ high.
-    finish (said.Cell (record { at = at; owner = owner_of owner; range = ends low high })))))))
+    finish (parsed.Cell (record { at = at; owner = owner_of owner; range = ends low high })))))))
 
 -- the length of a kind of line: that of half a scanline or of a whole one, and no less than the number of its events
-abbrev pub length_for : ℕ → Asked
+abbrev pub length_for : ℕ → NumberBounds
 length_for events =
     record (within (if nat_lt half_line events then scanline else half_line) (scanline + 1)) { hole = half_line + 1; hole_end = scanline }
 
@@ -117,8 +118,8 @@ pub record KindLineFits (version : Version) (k : KindLine) : Type 0 where
   pub clocks : IsLengthIn version k.clocks
 
 abbrev pub kind_after : Version → ℕ → LineForm
-kind_after First events = finish (said.Kind (record { events = events; clocks = scanline }))
-kind_after Second events = number (length_for events) (λ clocks. finish (said.Kind (record { events = events; clocks = clocks })))
+kind_after First events = finish (parsed.Kind (record { events = events; clocks = scanline }))
+kind_after Second events = number (length_for events) (λ clocks. finish (parsed.Kind (record { events = events; clocks = clocks })))
 
 -- kind EVENTS LENGTH, and in version 1 kind EVENTS
 abbrev pub kind_form : Version → LineForm
@@ -127,10 +128,10 @@ kind_form version = fixed (codes "kind") (number (within 1 (most_events + 1)) (�
 -- CLOCK sync V | pixel | sound | leave
 abbrev pub event_after : ℕ → ℕ → LineForm
 event_after clock n =
-    if n == 0 then number (within 0 2) (λ level. finish (said.Event (record { clock = clock; kind = Sync level })))
-    else (if n == 1 then finish (said.Event (record { clock = clock; kind = Pixel }))
-    else (if n == 2 then finish (said.Event (record { clock = clock; kind = Sound }))
-    else finish (said.Event (record { clock = clock; kind = Leave }))))
+    if n == 0 then number (within 0 2) (λ level. finish (parsed.Event (record { clock = clock; kind = Sync level })))
+    else (if n == 1 then finish (parsed.Event (record { clock = clock; kind = Pixel }))
+    else (if n == 2 then finish (parsed.Event (record { clock = clock; kind = Sound }))
+    else finish (parsed.Event (record { clock = clock; kind = Leave }))))
 
 -- in a kind of line of so many clocks
 abbrev pub event_form : ℕ → ℕ → LineForm
@@ -140,20 +141,20 @@ event_form clocks least =
 
 -- fall CLOCK
 abbrev pub fall_form : LineForm
-fall_form = fixed (codes "fall") (number (within 1 clock_limit) (λ clock. finish (said.Fall clock)))
+fall_form = fixed (codes "fall") (number (within 1 clock_limit) (λ clock. finish (parsed.Fall clock)))
 
 -- run COUNT KIND, of at most so many lines, and not the kind of the run before
 abbrev pub run_form : ℕ → ℕ → ℕ → LineForm
 run_form kinds left before =
     fixed (codes "run") (number (within 1 (left + 1)) (λ count. number (record (one_of kinds) { other = before }) (λ kind.
-    finish (said.Run (record { count = count; kind = kind })))))
+    finish (parsed.Run (record { count = count; kind = kind })))))
 
 -- rest LINE CLOCK VECTOR SPANS
 abbrev pub rest_form : ℕ → ℕ → List Cell → ℕ → LineForm
 rest_form lines points cells least =
     fixed (codes "rest") (number (rising least (within 0 lines)) (λ line. number (within 0 clock_limit) (λ clock.
     number (one_of points) (λ vector.
-    spans cells (λ es. finish (said.Rest (record { line = line; clock = clock; vector = vector; cells = record { items = es } })))))))
+    spans cells (λ es. finish (parsed.Rest (record { line = line; clock = clock; vector = vector; cells = record { items = es } })))))))
 
 -- the line and the clock of a main entry are 0, and all from L0 to SLOPE of a main point
 abbrev pub none_in_main : Kind → ℕ → ℕ
@@ -197,7 +198,7 @@ abbrev pub entry_form : Head → ℕ → ℕ → LineForm
 entry_form h lines points =
     fixed (codes "entry") (choice (codes "main" ∷ codes "alone" ∷ []) (λ n. number (one_of points) (λ id. number (within 0 32768) (λ pc.
     number (within 0 (none_in_main (entry_kind n) lines)) (λ line. number (within 0 (none_in_main (entry_kind n) clock_limit)) (λ clock.
-    items (shape_of h (entry_kind n) true points) h.cells.items (λ f. said.Entry (entry_of (entry_kind n) id pc line clock f))))))))
+    items (shape_of h (entry_kind n) true points) h.cells.items (λ f. parsed.Entry (entry_of (entry_kind n) id pc line clock f))))))))
 
 abbrev pub point_kind : ℕ → Kind
 point_kind n = if n == 0 then Main else (if n == 1 then Handler else Alone)
@@ -225,28 +226,6 @@ abbrev pub IsPointIn : Version → Point → Type 0
 IsPointIn First p = IsTimerLeftOut p
 IsPointIn Second p = ⊤
 
--- a point of its place and what is known there
-unfoldable pub point_of : PointPlace → Facts → Point
-point_of at f = record {
-  kind = at.kind;
-  pc = at.pc;
-  l0 = at.l0;
-  l1 = at.l1;
-  c0 = at.c0;
-  c1 = at.c1;
-  clock = at.clock;
-  slope = at.slope;
-  pending = at.pending;
-  regs = f.regs;
-  pairs = f.pairs;
-  flags = f.flags;
-  stack = f.stack;
-  cells = f.cells;
-  top = f.top;
-  temp = f.temp;
-  next = f.next;
-}
-
 -- point KIND PC L0 L1 C0 C1 CLOCK SLOPE PENDING ITEMS
 unfoldable pub point_after : Version → Head → ℕ → ℕ → ℕ → Kind → LineForm
 point_after version h lines points left kind =
@@ -254,7 +233,7 @@ point_after version h lines points left kind =
     number (within 0 (none_in_main kind 256)) (λ c0. number (within c0 (count_limit kind left l0 l1 c0)) (λ c1.
     number (within 0 (none_in_main kind clock_limit)) (λ clock. slope (none_in_main kind clock_limit) (λ s.
     number (within 0 (pending_limit kind)) (λ pending.
-    items (point_shape version h kind points) h.cells.items (λ f. said.Point (point_of (record {
+    items (point_shape version h kind points) h.cells.items (λ f. parsed.Point (point_of (record {
       kind = kind;
       pc = pc;
       l0 = l0;
@@ -273,4 +252,4 @@ point_form version h lines points left =
 
 -- end
 abbrev pub end_form : LineForm
-end_form = fixed (codes "end") (finish said.End)
+end_form = fixed (codes "end") (finish parsed.End)

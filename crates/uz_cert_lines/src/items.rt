@@ -9,9 +9,8 @@ ghost use Rattle.uz_cert_lines.specs.Items.{take_pair as pair_taken, flag_set as
 ghost use Rattle.uz_cert_lines.specs.Items.{take_slot as slot_taken, tracked_before as tracked_before_of, cell_at as cell_of_number};
 ghost use Rattle.uz_cert_lines.specs.Items.{cell_forms as forms_of_cell, numbered as numbered_of, cell_set as set_cell};
 ghost use Rattle.uz_cert_lines.specs.Items.{cell_value as value_of_cell, take_cell as cell_taken, successor_set as set_successor};
-ghost use Rattle.uz_cert_lines.specs.Items.{top_set as set_top, top_value as value_of_top, take_top as top_taken};
-ghost use Rattle.uz_cert_lines.specs.Items.{temp_forms as forms_of_temp};
-ghost use Rattle.uz_cert_lines.specs.Items.{temp_set as set_temp, take_temp as temp_taken, take_timer as timer_taken};
+ghost use Rattle.uz_cert_lines.specs.Items.{take_numbered, take_named_value as value_of_name};
+ghost use Rattle.uz_cert_lines.specs.Named.{temp_forms as forms_of_temp, value_read, top_item, temp_item, point_of as point_of_facts};
 ghost use Rattle.uz_cert_lines.specs.Items.{take_successor as successor_taken, is_flag_z as z_is_flag};
 ghost use Rattle.uz_cert_lines.specs.Items.{take_letter as letter_taken, take_keyed as keyed_taken, take_named as named_taken};
 ghost use Rattle.uz_cert_lines.specs.Items.{take_second as second_taken, take_item as item_taken, read_items as items_read};
@@ -20,12 +19,13 @@ use crate::defaults::{
     default_cells, default_flag, default_regs, is_any_pair, is_default, is_default_flag,
     is_handler, is_range, tracks,
 };
+use crate::lines::{PointPlace, same_pairs, same_regs};
 use crate::{
     CertWhy, FactForms, Raw, Words, bit_of, digits, fact_of, one_number, pair_of, range, raw_of,
     span_of,
 };
 use arrayvec::ArrayVec;
-use uz_schedule::{Bit, Cell, Fact, Kind, PairFact, SCANLINE, Span, is_top};
+use uz_schedule::{Bit, Cell, Fact, Kind, PairFact, Point, SCANLINE, Span, is_top};
 
 /// What the items of a line may say.
 #[derive(Clone, Copy)]
@@ -400,39 +400,32 @@ fn take_cell(
     cell_value(shape, cells, facts, cell_at(cells, number), raw)
 }
 
-fn top_set(facts: &mut Facts, top: u16) -> Result<(), CertWhy>
-    ensures ok { IfOk result (λ _. set_top facts.old top ≡ Ok facts.new) }
-    ensures err { IfErr result (λ e. set_top facts.old top ≡ Err e) }
+/// A word of OCR1A, which has to be the last clock of a line.
+fn read_top(value: &[u8]) -> Result<u16, CertWhy>
+    ensures { result ≡ value_read top_item.form value.now }
 {
-    in_order(facts, 59, top == SCANLINE - 1)?;
-    facts.top = top;
-    facts.least = 60;
-    Ok(())
-}
-
-/// A number that has to be the last clock of a line.
-fn top_value(facts: &mut Facts, top: u16) -> Result<(), CertWhy>
-    ensures ok { IfOk result (λ _. value_of_top facts.old top ≡ Ok facts.new) }
-    ensures err { IfErr result (λ e. value_of_top facts.old top ≡ Err e) }
-{
+    let top = one_number(0, u32::from(SCANLINE), value)? as u16;
     if is_top(top) {
-        top_set(facts, top)
+        Ok(top)
     } else {
         Err(CertWhy::Limit)
     }
 }
 
 /// `top=N`, of which this is N.
-#[tactic(auto, unfolding(crate::specs::Items::take_top))]
+#[tactic(auto, unfolding(crate::specs::Items::take_value))]
 fn take_top(shape: Shape, facts: &mut Facts, value: &[u8]) -> Result<(), CertWhy>
-    ensures ok { IfOk result (λ _. top_taken shape facts.old value.now ≡ Ok facts.new) }
-    ensures err { IfErr result (λ e. top_taken shape facts.old value.now ≡ Err e) }
+    ensures ok { IfOk result (λ _. take_numbered 0 shape facts.old value.now ≡ Ok facts.new) }
+    ensures err { IfErr result (λ e. take_numbered 0 shape facts.old value.now ≡ Err e) }
 {
     if !shape.timed {
         return Err(CertWhy::Word);
     }
-    let top = one_number(0, u32::from(SCANLINE), value)?;
-    top_value(facts, top as u16)
+    let top = read_top(value)?;
+    in_order(facts, 59, top == SCANLINE - 1)?;
+    facts.top = top;
+    facts.least = 60;
+    Ok(())
 }
 
 /// The forms of the word of TEMP.
@@ -448,34 +441,38 @@ fn temp_forms() -> FactForms
     }
 }
 
-fn temp_set(facts: &mut Facts, temp: Span) -> Result<(), CertWhy>
-    ensures ok { IfOk result (λ _. set_temp facts.old temp ≡ Ok facts.new) }
-    ensures err { IfErr result (λ e. set_temp facts.old temp ≡ Err e) }
+/// A word of TEMP.
+fn read_temp(value: &[u8]) -> Result<Span, CertWhy>
+    ensures { result ≡ value_read temp_item.form value.now }
 {
-    in_order(facts, 60, false)?;
+    span_of(range(temp_forms(), value)?)
+}
+
+/// `temp=N` and `temp=LO..HI`, of which this follows the `=`.
+#[tactic(auto, unfolding(crate::specs::Items::take_value))]
+fn take_temp(shape: Shape, facts: &mut Facts, value: &[u8]) -> Result<(), CertWhy>
+    ensures ok { IfOk result (λ _. take_numbered 1 shape facts.old value.now ≡ Ok facts.new) }
+    ensures err { IfErr result (λ e. take_numbered 1 shape facts.old value.now ≡ Err e) }
+{
+    if !shape.timed {
+        return Err(CertWhy::Word);
+    }
+    let temp = read_temp(value)?;
+    in_order(facts, 60, temp.lo() == 0 && temp.hi() == 255)?;
     facts.temp = temp;
     facts.least = 61;
     Ok(())
 }
 
-/// `temp=N` and `temp=LO..HI`, of which this follows the `=`.
-#[tactic(auto, unfolding(crate::specs::Items::take_temp))]
-fn take_temp(shape: Shape, facts: &mut Facts, value: &[u8]) -> Result<(), CertWhy>
-    ensures ok { IfOk result (λ _. temp_taken shape facts.old value.now ≡ Ok facts.new) }
-    ensures err { IfErr result (λ e. temp_taken shape facts.old value.now ≡ Err e) }
-{
-    if !shape.timed {
-        return Err(CertWhy::Word);
-    }
-    let raw = range(temp_forms(), value)?;
-    let temp = span_of(raw)?;
-    temp_set(facts, temp)
-}
-
-/// The items of the timer, of which these are the key and the value.
-fn take_timer(shape: Shape, facts: &mut Facts, key: &[u8], value: &[u8]) -> Result<(), CertWhy>
-    ensures ok { IfOk result (λ _. timer_taken shape facts.old key.now value.now ≡ Ok facts.new) }
-    ensures err { IfErr result (λ e. timer_taken shape facts.old key.now value.now ≡ Err e) }
+/// The items of one value that have a name, of which these are the name and the value.
+fn take_named_value(
+    shape: Shape,
+    facts: &mut Facts,
+    key: &[u8],
+    value: &[u8],
+) -> Result<(), CertWhy>
+    ensures ok { IfOk result (λ _. value_of_name shape facts.old key.now value.now ≡ Ok facts.new) }
+    ensures err { IfErr result (λ e. value_of_name shape facts.old key.now value.now ≡ Err e) }
 {
     if key == b"top".as_slice() {
         return take_top(shape, facts, value);
@@ -484,6 +481,32 @@ fn take_timer(shape: Shape, facts: &mut Facts, key: &[u8], value: &[u8]) -> Resu
         return take_temp(shape, facts, value);
     }
     Err(CertWhy::Word)
+}
+
+/// A point of its place and what is known there.
+#[tactic(auto, unfolding(crate::specs::Named::point_of))]
+pub(crate) fn point_of(place: PointPlace, facts: Facts) -> Point
+    ensures { result ≡ point_of_facts place facts }
+{
+    Point {
+        kind: place.kind,
+        pc: place.pc,
+        l0: place.l0,
+        l1: place.l1,
+        c0: place.c0,
+        c1: place.c1,
+        clock: place.clock,
+        slope: place.slope,
+        pending: place.pending,
+        regs: same_regs(&facts.regs),
+        pairs: same_pairs(&facts.pairs),
+        flags: facts.flags,
+        stack: facts.stack,
+        cells: facts.cells,
+        top: facts.top,
+        temp: facts.temp,
+        next: facts.next,
+    }
 }
 
 fn successor_set(facts: &mut Facts, id: Option<u32>) -> Result<(), CertWhy>
@@ -591,7 +614,7 @@ fn take_keyed(
             } else if rest.len() == 0 {
                 take_letter(shape, facts, *c, value, later)
             } else {
-                take_timer(shape, facts, key, value)
+                take_named_value(shape, facts, key, value)
             }
         }
         [] => Err(CertWhy::Word),

@@ -4,7 +4,7 @@ ghost use Rattle.std.specs.Prelude.{ℕ, ◌≡◌, ◌≢◌, ◌<◌, ◌≤�
 ghost use Rattle.uz_schedule.specs.Tracked.{depth_of as depth_of_kind};
 ghost use Rattle.uz_cert_lines.specs.Grammar.{choice_of, next_as, number_of, rest_of};
 ghost use Rattle.uz_cert_lines.specs.Forms.{reads, spans_of, finish as ends_with};
-ghost use Rattle.uz_cert_lines.specs.declared.lines.Said.TheVariants as said_of;
+ghost use Rattle.uz_cert_lines.specs.declared.lines.ParsedLine.TheVariants as said_of;
 ghost use Rattle.uz_cert_lines.specs.Lines.{size_form, irq_form, stack_form, cell_form, kind_form, event_form};
 ghost use Rattle.uz_cert_lines.specs.Lines.{fall_form, run_form, rest_form};
 ghost use Rattle.uz_cert_lines.specs.Lines.{entry_form, point_form, end_form, within as within_limits};
@@ -13,16 +13,16 @@ ghost use Rattle.uz_cert_lines.specs.Lines.{owner_of as owner_of_place, off_stac
 ghost use Rattle.uz_cert_lines.specs.Lines.{shape_of as shape_of_kind, is_timed as has_timer, point_shape as shape_of_point};
 ghost use Rattle.uz_cert_lines.specs.Lines.{span_of_fact as ends_of_fact};
 ghost use Rattle.uz_cert_lines.specs.Lines.{entry_of as entry_of_facts, entry_kind as kind_of_entry, point_kind as kind_of_point};
-ghost use Rattle.uz_cert_lines.specs.Lines.{pending_limit as limit_of_pending, count_limit as limit_of_count, point_of as point_of_facts};
+ghost use Rattle.uz_cert_lines.specs.Lines.{pending_limit as limit_of_pending, count_limit as limit_of_count};
 ghost use Rattle.uz_cert_lines.specs.Lines.{length_for as length_for_events, kind_after as kind_after_events};
 ghost use Rattle.uz_schedule.specs.Schedule.{scanline};
 ghost use Rattle.uz_cert_lines.specs.Lines.{event_after as event_after_clock, point_after as point_after_kind};
 
 use crate::defaults::{is_handler, tracks};
-use crate::items::{Facts, Shape, read_items};
+use crate::items::{Facts, Shape, point_of, read_items};
 use crate::numbers::{between, in_order, one_number_of, one_of, within};
 use crate::version::Version;
-use crate::{Asked, CertWhy, Words};
+use crate::{CertWhy, NumberBounds, Words};
 use arrayvec::ArrayVec;
 use uz_schedule::{
     CLOCK_LIMIT, Cell, Entry, Event, EventKind, Fact, HALF_LINE, Head, Kind, MOST_EVENTS, Owner,
@@ -77,7 +77,7 @@ pub struct Run {
 
 /// What a line says.
 #[derive(Drop)]
-pub enum Said {
+pub enum ParsedLine {
     /// `size KINDS LINES RESTS POINTS CELLS`
     Size(Sizes),
     /// `irq R`
@@ -105,7 +105,7 @@ pub enum Said {
 }
 
 /// What the line says, where it ends here.
-fn at_end(words: &mut Words, said: Said) -> Result<Said, CertWhy>
+fn at_end(words: &mut Words, said: ParsedLine) -> Result<ParsedLine, CertWhy>
     ensures { result ≡ reads (ends_with said) words.old }
 {
     words.finish()?;
@@ -119,7 +119,7 @@ fn least_of(a: u32, b: u32) -> u32
 }
 
 /// `size KINDS LINES RESTS POINTS CELLS`
-pub fn size_line(words: &mut Words) -> Result<Said, CertWhy>
+pub fn size_line(words: &mut Words) -> Result<ParsedLine, CertWhy>
     ensures { result ≡ reads size_form words.old }
 {
     words.fixed(b"size")?;
@@ -130,7 +130,7 @@ pub fn size_line(words: &mut Words) -> Result<Said, CertWhy>
     let cells = between(words, 0, 17)?;
     at_end(
         words,
-        Said::Size(Sizes {
+        ParsedLine::Size(Sizes {
             kinds,
             lines,
             rests,
@@ -151,12 +151,12 @@ fn response_of(clocks: u32) -> Response
 }
 
 /// `irq R`
-pub fn irq_line(words: &mut Words) -> Result<Said, CertWhy>
+pub fn irq_line(words: &mut Words) -> Result<ParsedLine, CertWhy>
     ensures { result ≡ reads irq_form words.old }
 {
     words.fixed(b"irq")?;
     let clocks = between(words, 4, 6)?;
-    at_end(words, Said::Irq(response_of(clocks)))
+    at_end(words, ParsedLine::Irq(response_of(clocks)))
 }
 
 /// The next word, which has to be a number of bytes that may be pushed where the stack has room for so many.
@@ -170,7 +170,7 @@ fn pushed(words: &mut Words, room: u32) -> Result<u32, CertWhy>
 }
 
 /// `stack LO HI MAIN HANDLER`
-pub fn stack_line(words: &mut Words) -> Result<Said, CertWhy>
+pub fn stack_line(words: &mut Words) -> Result<ParsedLine, CertWhy>
     ensures { result ≡ reads stack_form words.old }
 {
     words.fixed(b"stack")?;
@@ -180,7 +180,7 @@ pub fn stack_line(words: &mut Words) -> Result<Said, CertWhy>
     let handler = pushed(words, hi - lo - main)?;
     at_end(
         words,
-        Said::Stack(StackLine {
+        ParsedLine::Stack(StackLine {
             lo: lo as u16,
             hi: hi as u16,
             main: main as u8,
@@ -208,11 +208,11 @@ fn owner_of(place: u32) -> Owner
 }
 
 /// An address of RAM, off the stack.
-fn off_stack(lo: u16, hi: u16, least: u32) -> Asked
+fn off_stack(lo: u16, hi: u16, least: u32) -> NumberBounds
     ensures asked { result ≡ off_the_stack lo hi least }
     ensures limit { result.limit ≡ 4352 }
 {
-    Asked {
+    NumberBounds {
         hole: u32::from(lo),
         hole_end: u32::from(hi) + 1,
         least,
@@ -221,7 +221,7 @@ fn off_stack(lo: u16, hi: u16, least: u32) -> Asked
 }
 
 /// `cell ADDRESS OWNER LO HI`
-pub fn cell_line(lo: u16, hi: u16, least: u32, words: &mut Words) -> Result<Said, CertWhy>
+pub fn cell_line(lo: u16, hi: u16, least: u32, words: &mut Words) -> Result<ParsedLine, CertWhy>
     ensures { result ≡ reads (cell_form lo hi least) words.old }
 {
     words.fixed(b"cell")?;
@@ -231,7 +231,7 @@ pub fn cell_line(lo: u16, hi: u16, least: u32, words: &mut Words) -> Result<Said
     let high = between(words, low, 256)?;
     at_end(
         words,
-        Said::Cell(Cell {
+        ParsedLine::Cell(Cell {
             at: at as u16,
             owner: owner_of(owner),
             range: Span::between(low as u8, high as u8),
@@ -240,12 +240,12 @@ pub fn cell_line(lo: u16, hi: u16, least: u32, words: &mut Words) -> Result<Said
 }
 
 /// The clocks of half a scanline or of a whole one, and no fewer than there are events.
-fn length_for(events: u32) -> Asked
+fn length_for(events: u32) -> NumberBounds
     ensures asked { result ≡ length_for_events events }
     ensures limit { result.limit ≡ scanline + 1 }
 {
     let low = if HALF < events { WHOLE } else { HALF };
-    Asked {
+    NumberBounds {
         hole: HALF + 1,
         hole_end: WHOLE,
         ..within(low, WHOLE + 1)
@@ -253,26 +253,26 @@ fn length_for(events: u32) -> Asked
 }
 
 /// What follows the number of events.
-fn kind_after(version: Version, events: u32, words: &mut Words) -> Result<Said, CertWhy>
+fn kind_after(version: Version, events: u32, words: &mut Words) -> Result<ParsedLine, CertWhy>
     ensures { result ≡ reads (kind_after_events version events) words.old }
 {
     match version {
         Version::First => at_end(
             words,
-            Said::Kind(KindLine {
+            ParsedLine::Kind(KindLine {
                 events,
                 clocks: SCANLINE,
             }),
         ),
         Version::Second => {
             let clocks = words.number(length_for(events))? as u16;
-            at_end(words, Said::Kind(KindLine { events, clocks }))
+            at_end(words, ParsedLine::Kind(KindLine { events, clocks }))
         }
     }
 }
 
 /// `kind EVENTS LENGTH`, and in version 1 `kind EVENTS`
-pub fn kind_line(version: Version, words: &mut Words) -> Result<Said, CertWhy>
+pub fn kind_line(version: Version, words: &mut Words) -> Result<ParsedLine, CertWhy>
     ensures { result ≡ reads (kind_form version) words.old }
 {
     words.fixed(b"kind")?;
@@ -303,7 +303,7 @@ fn plain_event(place: u32) -> EventKind
 }
 
 /// What follows the clock of an event, whose word is of this place.
-fn event_after(clock: u16, place: u32, words: &mut Words) -> Result<Said, CertWhy>
+fn event_after(clock: u16, place: u32, words: &mut Words) -> Result<ParsedLine, CertWhy>
     ensures { result ≡ reads (event_after_clock clock place) words.old }
 {
     let kind = if place == 0 {
@@ -311,11 +311,11 @@ fn event_after(clock: u16, place: u32, words: &mut Words) -> Result<Said, CertWh
     } else {
         plain_event(place)
     };
-    at_end(words, Said::Event(Event { clock, kind }))
+    at_end(words, ParsedLine::Event(Event { clock, kind }))
 }
 
 /// `CLOCK sync V`, `CLOCK pixel`, `CLOCK sound` and `CLOCK leave`, in a kind of line of so many clocks.
-pub fn event_line(clocks: u16, least: u32, words: &mut Words) -> Result<Said, CertWhy>
+pub fn event_line(clocks: u16, least: u32, words: &mut Words) -> Result<ParsedLine, CertWhy>
     ensures { result ≡ reads (event_form clocks least) words.old }
 {
     let clock = in_order(words, least, u32::from(clocks))?;
@@ -324,26 +324,31 @@ pub fn event_line(clocks: u16, least: u32, words: &mut Words) -> Result<Said, Ce
 }
 
 /// `fall CLOCK`
-pub fn fall_line(words: &mut Words) -> Result<Said, CertWhy>
+pub fn fall_line(words: &mut Words) -> Result<ParsedLine, CertWhy>
     ensures { result ≡ reads fall_form words.old }
 {
     words.fixed(b"fall")?;
     let clock = between(words, 1, CLOCKS)?;
-    at_end(words, Said::Fall(clock as u16))
+    at_end(words, ParsedLine::Fall(clock as u16))
 }
 
 /// `run COUNT KIND`
-pub fn run_line(kinds: u32, left: u32, before: u32, words: &mut Words) -> Result<Said, CertWhy>
+pub fn run_line(
+    kinds: u32,
+    left: u32,
+    before: u32,
+    words: &mut Words,
+) -> Result<ParsedLine, CertWhy>
     requires { left ≤ 525 }
     ensures { result ≡ reads (run_form kinds left before) words.old }
 {
     words.fixed(b"run")?;
     let count = between(words, 1, left + 1)?;
-    let kind = words.number(Asked {
+    let kind = words.number(NumberBounds {
         other: before,
         ..one_of(kinds)
     })?;
-    at_end(words, Said::Run(Run { count, kind }))
+    at_end(words, ParsedLine::Run(Run { count, kind }))
 }
 
 /// A range for each cell of the handler, each within the one of the header.
@@ -369,7 +374,7 @@ pub fn rest_line(
     cells: &[Cell],
     least: u32,
     words: &mut Words,
-) -> Result<Said, CertWhy>
+) -> Result<ParsedLine, CertWhy>
     requires lines { lines ≤ 525 }
     requires cells { length cells.now ≤ 16 }
     ensures { result ≡ reads (rest_form lines points cells.now least) words.old }
@@ -381,7 +386,7 @@ pub fn rest_line(
     let cells = spans(cells, words)?;
     at_end(
         words,
-        Said::Rest(Rest {
+        ParsedLine::Rest(Rest {
             line: line as u16,
             clock: clock as u16,
             vector,
@@ -500,7 +505,12 @@ fn entry_kind(place: u32) -> Kind
 }
 
 /// `entry KIND ID PC LINE CLOCK ITEMS`
-pub fn entry_line(head: &Head, lines: u32, points: u32, words: &mut Words) -> Result<Said, CertWhy>
+pub fn entry_line(
+    head: &Head,
+    lines: u32,
+    points: u32,
+    words: &mut Words,
+) -> Result<ParsedLine, CertWhy>
     requires lines { (1 ≤ lines) × (lines ≤ 525) }
     requires depth { (head.now.main ≤ 32) × (head.now.handler ≤ 32) }
     requires cells { length head.now.cells.items ≤ 16 }
@@ -514,7 +524,7 @@ pub fn entry_line(head: &Head, lines: u32, points: u32, words: &mut Words) -> Re
     let clock = of_kind(words, kind, 0, CLOCKS)?;
     let shape = shape_of(head, kind, true, points);
     let facts = read_items(shape, head.cells.as_slice(), words)?;
-    Ok(Said::Entry(entry_of(kind, id, pc as u16, line as u16, clock as u16, &facts)))
+    Ok(ParsedLine::Entry(entry_of(kind, id, pc as u16, line as u16, clock as u16, &facts)))
 }
 
 /// The next word, which has to be the kind of a point; its place among them.
@@ -634,7 +644,7 @@ fn same_fact(fact: &Fact) -> Fact
 }
 
 /// The same facts.
-fn same_regs(facts: &[Fact; 32]) -> [Fact; 32]
+pub(crate) fn same_regs(facts: &[Fact; 32]) -> [Fact; 32]
     ensures { result ≡ facts.now }
 {
     let mut copy = [Fact::Any; 32];
@@ -657,7 +667,7 @@ fn same_pair(fact: &PairFact) -> PairFact
 }
 
 /// The same facts.
-fn same_pairs(facts: &[PairFact; 3]) -> [PairFact; 3]
+pub(crate) fn same_pairs(facts: &[PairFact; 3]) -> [PairFact; 3]
     ensures { result ≡ facts.now }
 {
     let mut copy = [PairFact::Any; 3];
@@ -665,31 +675,6 @@ fn same_pairs(facts: &[PairFact; 3]) -> [PairFact; 3]
         copy[k] = same_pair(&facts[k]);
     }
     copy
-}
-
-#[tactic(auto, unfolding(crate::specs::Lines::point_of))]
-fn point_of(place: PointPlace, facts: Facts) -> Point
-    ensures { result ≡ point_of_facts place facts }
-{
-    Point {
-        kind: place.kind,
-        pc: place.pc,
-        l0: place.l0,
-        l1: place.l1,
-        c0: place.c0,
-        c1: place.c1,
-        clock: place.clock,
-        slope: place.slope,
-        pending: place.pending,
-        regs: same_regs(&facts.regs),
-        pairs: same_pairs(&facts.pairs),
-        flags: facts.flags,
-        stack: facts.stack,
-        cells: facts.cells,
-        top: facts.top,
-        temp: facts.temp,
-        next: facts.next,
-    }
 }
 
 /// What follows the kind of a point.
@@ -702,7 +687,7 @@ fn point_after(
     left: u32,
     kind: Kind,
     words: &mut Words,
-) -> Result<Said, CertWhy>
+) -> Result<ParsedLine, CertWhy>
     requires lines { (1 ≤ lines) × (lines ≤ 525) }
     requires left { left ≤ 16777216 }
     requires depth { (head.now.main ≤ 32) × (head.now.handler ≤ 32) }
@@ -730,7 +715,7 @@ fn point_after(
         slope,
         pending: pending == 1,
     };
-    Ok(Said::Point(point_of(place, facts)))
+    Ok(ParsedLine::Point(point_of(place, facts)))
 }
 
 /// `point KIND PC L0 L1 C0 C1 CLOCK SLOPE PENDING ITEMS`, where so many instances are left. In version 1 no item is one of
@@ -742,7 +727,7 @@ pub fn point_line(
     points: u32,
     left: u32,
     words: &mut Words,
-) -> Result<Said, CertWhy>
+) -> Result<ParsedLine, CertWhy>
     requires lines { (1 ≤ lines) × (lines ≤ 525) }
     requires left { left ≤ 16777216 }
     requires depth { (head.now.main ≤ 32) × (head.now.handler ≤ 32) }
@@ -755,9 +740,9 @@ pub fn point_line(
 }
 
 /// `end`
-pub fn end_line(words: &mut Words) -> Result<Said, CertWhy>
+pub fn end_line(words: &mut Words) -> Result<ParsedLine, CertWhy>
     ensures { result ≡ reads end_form words.old }
 {
     words.fixed(b"end")?;
-    at_end(words, Said::End)
+    at_end(words, ParsedLine::End)
 }

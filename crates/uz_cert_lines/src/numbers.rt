@@ -4,15 +4,15 @@ ghost use Rattle.std.specs.Prelude.{◌≡◌, ◌<◌, ◌≤◌, IfOk};
 ghost use Rattle.uz_cert_lines.specs.Grammar.{next_as, number_of, rest_of};
 ghost use Rattle.uz_cert_lines.specs.Lines.{within as within_limits, one_of as number_of_one, rising as rising_from};
 
-use crate::{Asked, CertWhy, Words};
+use crate::{CertWhy, NumberBounds, Words};
 
 /// A number from `low` on and below `limit`.
-pub fn within(low: u32, limit: u32) -> Asked
+pub fn within(low: u32, limit: u32) -> NumberBounds
     ensures asked { result ≡ within_limits low limit }
     ensures low { result.low ≡ low }
     ensures limit { result.limit ≡ limit }
 {
-    Asked {
+    NumberBounds {
         low,
         limit,
         beyond: CertWhy::Limit,
@@ -34,11 +34,11 @@ pub fn between(words: &mut Words, low: u32, limit: u32) -> Result<u32, CertWhy>
 }
 
 /// The number of one of so many, which are counted from 0.
-pub fn one_of(count: u32) -> Asked
+pub fn one_of(count: u32) -> NumberBounds
     ensures asked { result ≡ number_of_one count }
     ensures limit { result.limit ≡ count }
 {
-    Asked {
+    NumberBounds {
         low: 0,
         limit: count,
         beyond: CertWhy::Unknown,
@@ -50,11 +50,11 @@ pub fn one_of(count: u32) -> Asked
 }
 
 /// The same, and at least so much to keep the order.
-pub fn rising(least: u32, asked: Asked) -> Asked
+pub fn rising(least: u32, asked: NumberBounds) -> NumberBounds
     ensures asked { result ≡ rising_from least asked }
     ensures limit { result.limit ≡ asked.limit }
 {
-    Asked { least, ..asked }
+    NumberBounds { least, ..asked }
 }
 
 /// The next word, which has to be the number of one of so many.

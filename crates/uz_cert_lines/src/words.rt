@@ -15,7 +15,7 @@ use uz_schedule::Span;
 
 /// What is asked of a number.
 #[derive(Clone, Copy)]
-pub struct Asked {
+pub struct NumberBounds {
     /// The least number within the limits.
     pub low: u32,
     /// The least number above the limits.
@@ -49,7 +49,7 @@ impl<'a> Model for Words<'a> {
     ghost view = { λ w. record { list = words_left w.left; ended = w.ended } };
 }
 
-impl Asked {
+impl NumberBounds {
     ghost use Rattle.std.specs.Prelude.{IfOk};
     ghost use Rattle.uz_cert_lines.specs.Grammar.{asked as asked_of};
 
@@ -143,7 +143,7 @@ impl<'a> Words<'a> {
     }
 
     /// The next word, which has to be a number as asked.
-    pub fn number(&mut self, asked: Asked) -> Result<u32, CertWhy>
+    pub fn number(&mut self, asked: NumberBounds) -> Result<u32, CertWhy>
         ensures number { result ≡ next_as (number_of asked) self.old }
         ensures low { IfOk result (λ n. asked.low ≤ n) }
         ensures below { IfOk result (λ n. n < asked.limit) }
@@ -245,7 +245,7 @@ fn any_names_in(words: Option<&[u8]>) -> bool
 
 /// The number of a word.
 #[tactic(auto, unfolding(crate::specs::Grammar::number_of))]
-fn number_of_word(word: &[u8], asked: Asked) -> Result<u32, CertWhy>
+fn number_of_word(word: &[u8], asked: NumberBounds) -> Result<u32, CertWhy>
     ensures number { result ≡ number_of asked word.now }
     ensures low { IfOk result (λ n. asked.low ≤ n) }
     ensures below { IfOk result (λ n. n < asked.limit) }

@@ -1,13 +1,15 @@
 -- The lines of rests, entries and points, put piece by piece, are their words joined.
-use Rattle.std.proofs.Common.{◌≡◌, ℕ, List, [], ◌∷◌, ◌++◌, map, decimal, codes, sym, ◌∙◌, ap, append_assoc}
+use Rattle.std.proofs.Common.{◌≡◌, ℕ, List, [], ◌∷◌, ◌++◌, map, decimal, codes, refl, sym, ◌∙◌, ap, append_assoc}
 use Rattle.uz_schedule.specs.declared.header.Cell.{Cell}
 use Rattle.uz_schedule.specs.declared.states.Entry.{Entry}
 use Rattle.uz_schedule.specs.declared.states.Point.{Point}
 use Rattle.uz_schedule.specs.declared.states.Rest.{Rest}
-use Rattle.uz_cert_writer.specs.Spelling.{register_items, pair_items, flag_items, slot_items, cell_items, top_items, temp_items, successor_items}
+use Rattle.uz_cert_writer.specs.Spelling.{register_items, pair_items, flag_items, slot_items, cell_items, successor_items}
+use Rattle.uz_cert_writer.specs.Spelling.{value_items, listed_items}
+use Rattle.uz_cert_lines.specs.Named.{NamedItem, named_items, NamedValues, values_of}
 use Rattle.uz_cert_writer.specs.Spelling.{range_facts, ends_word, rest_words, entry_items, entry_words, point_items, point_words}
 use Rattle.uz_cert_writer.specs.Joined.{spaced, line_end, rest_text, entry_place, entry_facts, entry_text, point_place, core_text, memory_text}
-use Rattle.uz_cert_writer.specs.Joined.{onward_text, point_text}
+use Rattle.uz_cert_writer.specs.Joined.{listed_text, onward_text, point_text}
 use Rattle.uz_cert_writer.proofs.Joining.{spaced_append, join_words}
 
 -- a first word and two lists of others
@@ -34,18 +36,27 @@ entry_is cells e =
     ap (λ t. codes "entry" ++ (spaced (entry_place e) ++ (t ++ 10 ∷ []))) (sym (entry_facts_are cells e))
     ∙ sym (line_of_two (codes "entry") (entry_place e) (entry_items cells e))
 
-memory_facts_are : (cells : List Cell) (p : Point)
-    → spaced (slot_items p.stack.items ++ (cell_items p.kind 0 cells p.cells.items
-    ++ (top_items p.top ++ (temp_items p.temp ++ successor_items p.next.items)))) ≡ memory_text cells p ++ onward_text p
+listed_are : (is : List NamedItem) (v : NamedValues is) (later : List (List ℕ))
+    → spaced (listed_items is v ++ later) ≡ listed_text is v (spaced later)
+listed_are [] v later = refl
+listed_are (i ∷ is) v later =
+    ap spaced (append_assoc (value_items i v.0) (listed_items is v.1) later)
+    ∙ spaced_append (value_items i v.0) (listed_items is v.1 ++ later)
+    ∙ ap (λ t. spaced (value_items i v.0) ++ t) (listed_are is v.1 later)
+
+abbrev after_flags : List Cell → Point → List (List ℕ)
+after_flags cells p =
+    slot_items p.stack.items ++ (cell_items p.kind 0 cells p.cells.items
+    ++ (listed_items named_items (values_of p) ++ successor_items p.next.items))
+
+memory_facts_are : (cells : List Cell) (p : Point) → spaced (after_flags cells p) ≡ memory_text cells p ++ onward_text p
 memory_facts_are cells p =
     let slots = slot_items p.stack.items in
     let facts = cell_items p.kind 0 cells p.cells.items in
-    let top = top_items p.top in
-    let temp = temp_items p.temp in
-    let next = successor_items p.next.items in
-    spaced_append slots (facts ++ (top ++ (temp ++ next)))
-    ∙ ap (λ t. spaced slots ++ t) (spaced_append facts (top ++ (temp ++ next))
-    ∙ ap (λ t. spaced facts ++ t) (spaced_append top (temp ++ next) ∙ ap (λ t. spaced top ++ t) (spaced_append temp next)))
+    let later = listed_items named_items (values_of p) ++ successor_items p.next.items in
+    spaced_append slots (facts ++ later)
+    ∙ ap (λ t. spaced slots ++ t) (spaced_append facts later
+    ∙ ap (λ t. spaced facts ++ t) (listed_are named_items (values_of p) (successor_items p.next.items)))
     ∙ sym (append_assoc (spaced slots) (spaced facts) (onward_text p))
 
 point_facts_are : (cells : List Cell) (p : Point) → spaced (point_items cells p) ≡ core_text p ++ (memory_text cells p ++ onward_text p)
@@ -53,8 +64,7 @@ point_facts_are cells p =
     let regs = register_items p.kind 0 p.regs in
     let pairs = pair_items (codes "xyz") p.pairs in
     let flags = flag_items p.kind (codes "cznvsht") p.flags in
-    let memory = slot_items p.stack.items ++ (cell_items p.kind 0 cells p.cells.items
-    ++ (top_items p.top ++ (temp_items p.temp ++ successor_items p.next.items))) in
+    let memory = after_flags cells p in
     let told = memory_text cells p ++ onward_text p in
     spaced_append regs (pairs ++ (flags ++ memory))
     ∙ ap (λ t. spaced regs ++ t) (spaced_append pairs (flags ++ memory)

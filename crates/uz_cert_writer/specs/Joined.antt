@@ -8,7 +8,8 @@ use Rattle.uz_schedule.specs.declared.states.Point.{Point}
 use Rattle.uz_schedule.specs.declared.states.Rest.{Rest}
 use Rattle.uz_schedule.specs.declared.certificate.Cert.{Cert}
 use Rattle.uz_cert_writer.specs.Spelling.{line_of, kind_word, signed_word, truth_word, register_items, pair_items, flag_items, slot_items}
-use Rattle.uz_cert_writer.specs.Spelling.{cell_items, top_items, temp_items, successor_items, range_facts, ends_word, size_words, irq_words, stack_words, cell_words}
+use Rattle.uz_cert_lines.specs.Named.{NamedItem, named_items, NamedValues, values_of}
+use Rattle.uz_cert_writer.specs.Spelling.{cell_items, value_items, successor_items, range_facts, ends_word, size_words, irq_words, stack_words, cell_words}
 use Rattle.uz_cert_writer.specs.Spelling.{fall_words}
 use Rattle.uz_cert_lines.specs.declared.version.Version.TheVariants.{Second}
 use Rattle.uz_cert_writer.specs.Spelling.{kinds_then, runs_of, run_words, rest_words, entry_words, point_words}
@@ -78,9 +79,14 @@ core_text p =
 abbrev pub memory_text : List Cell → Point → List ℕ
 memory_text cells p = spaced (slot_items p.stack.items) ++ spaced (cell_items p.kind 0 cells p.cells.items)
 
--- a point's items of the timer and successors
+-- items of one value, and what follows them
+abbrev pub listed_text : (is : List NamedItem) → NamedValues is → List ℕ → List ℕ
+listed_text [] v later = later
+listed_text (i ∷ is) v later = spaced (value_items i v.0) ++ listed_text is v.1 later
+
+-- a point's items of one value, and successors
 abbrev pub onward_text : Point → List ℕ
-onward_text p = spaced (top_items p.top) ++ (spaced (temp_items p.temp) ++ spaced (successor_items p.next.items))
+onward_text p = listed_text named_items (values_of p) (spaced (successor_items p.next.items))
 
 -- the line of a point
 abbrev pub point_text : List Cell → Point → List ℕ

@@ -9,7 +9,8 @@ use Rattle.uz_schedule.specs.declared.kinds.Kind.{Kind}
 use Rattle.uz_schedule.specs.declared.kinds.Kind.TheVariants.{Main, Handler, Alone}
 use Rattle.uz_schedule.specs.Tracked.{tracks}
 use Rattle.uz_schedule.specs.WellFormed.{is_default_flag}
-use Rattle.uz_cert_lines.specs.Defaults.{is_default, is_any_pair, is_range, is_default_top, is_default_temp, range_fact}
+use Rattle.uz_cert_lines.specs.Defaults.{is_default, is_any_pair, is_range, range_fact}
+use Rattle.uz_cert_lines.specs.Named.{ValueForm, a_number, a_range, ValueOf, is_usual, NamedItem, named_items, NamedValues, values_of}
 use Rattle.uz_cert_lines.specs.Lines.{head_line}
 use Rattle.uz_cert_lines.specs.declared.version.Version.{Version}
 use Rattle.uz_cert_lines.specs.declared.version.Version.TheVariants.{First, Second}
@@ -70,7 +71,7 @@ flag_word One = codes "1"
 flag_word Free = codes "?"
 flag_word OldBit = codes "o"
 
--- items: what is said of registers, pairs, flags, slots, cells and the timer; a default is left out
+-- items: what is said of registers, pairs, flags, slots, cells, and by items of one value; a default is left out
 
 abbrev pub item : List ℕ → List ℕ → List ℕ
 item key value = key ++ code "=" ∷ value
@@ -122,12 +123,20 @@ cell_items kind i (c ∷ cs) (f ∷ fs) =
     then unless (is_range c.range f) (item (code "m" ∷ decimal i) (fact_word f)) (cell_items kind (suc i) cs fs)
     else cell_items kind (suc i) cs (f ∷ fs)
 
--- OCR1A, and the range of TEMP, of which `*` is no spelling
-abbrev pub top_items : ℕ → List (List ℕ)
-top_items top = unless (is_default_top top) (item (codes "top") (decimal top)) []
+-- items of one value that have a name, in their order
+abbrev pub value_word : (form : ValueForm) → ValueOf form → List ℕ
+value_word (a_number limit may usual) n = decimal n
+value_word a_range e = range_word e
 
-abbrev pub temp_items : Ends → List (List ℕ)
-temp_items temp = unless (is_default_temp temp) (item (codes "temp") (range_word temp)) []
+abbrev pub value_item : (i : NamedItem) → ValueOf i.form → List ℕ
+value_item i x = item i.key (value_word i.form x)
+
+abbrev pub value_items : (i : NamedItem) → ValueOf i.form → List (List ℕ)
+value_items i x = unless (is_usual i.form x) (value_item i x) []
+
+abbrev pub listed_items : (is : List NamedItem) → NamedValues is → List (List ℕ)
+listed_items [] v = []
+listed_items (i ∷ is) v = value_items i v.0 ++ listed_items is v.1
 
 abbrev pub successor_items : List ℕ → List (List ℕ)
 successor_items ids = map (λ id. code ">" ∷ decimal id) ids
@@ -220,9 +229,8 @@ point_items cells p =
     ++ (flag_items p.kind (codes "cznvsht") p.flags
     ++ (slot_items p.stack.items
     ++ (cell_items p.kind 0 cells p.cells.items
-    ++ (top_items p.top
-    ++ (temp_items p.temp
-    ++ successor_items p.next.items))))))
+    ++ (listed_items named_items (values_of p)
+    ++ successor_items p.next.items)))))
 
 abbrev pub point_words : List Cell → Point → List (List ℕ)
 point_words cells p =

@@ -4,16 +4,17 @@ ghost use Rattle.std.specs.Prelude.{◌≡◌, ◌≤◌, ◌+◌, ◌++◌, ◌
 ghost use Rattle.uz_cert_lines.specs.Defaults.{is_any_pair, is_default as default_fact, is_range as default_cell};
 ghost use Rattle.uz_schedule.specs.WellFormed.{is_default_flag as default_flag};
 ghost use Rattle.uz_schedule.specs.declared.header.Cell.{Cell};
-ghost use Rattle.uz_cert_writer.specs.Joined.{spaced};
+ghost use Rattle.uz_cert_writer.specs.Joined.{spaced, onward_text};
 ghost use Rattle.uz_cert_writer.specs.Spelling.{item, unless, fact_word, pair_word, flag_word, range_facts};
 ghost use Rattle.uz_cert_writer.specs.Spelling.{register_items, pair_items, flag_items, slot_items, cell_items};
-ghost use Rattle.uz_cert_writer.specs.Spelling.{top_items, temp_items, successor_items};
+ghost use Rattle.uz_cert_writer.specs.Spelling.{value_items, successor_items};
+ghost use Rattle.uz_cert_lines.specs.Named.{top_item, temp_item};
 
 use crate::facts::{add_fact, add_pair_fact, add_range, flag, range_fact};
 use crate::words::{add_byte, add_decimal, add_word};
 use arrayvec::ArrayVec;
 use std::alloc::AllocError;
-use uz_schedule::{Bit, Cell, Fact, Kind, PairFact, SCANLINE, Span, tracks};
+use uz_schedule::{Bit, Cell, Fact, Kind, PairFact, Point, SCANLINE, Span, tracks};
 
 /// The letters of the pairs and of the flags.
 const PAIR_LETTERS: [u8; 3] = [b'x', b'y', b'z'];
@@ -198,8 +199,8 @@ pub(crate) fn add_cells(
 }
 
 /// Adds the item of OCR1A, unless that is the last clock of a scanline.
-pub(crate) fn add_top(text: &mut Vec<u8>, top: u16) -> Result<(), AllocError>
-    ensures { OnOk result (text.new.items ≡ text.old.items ++ spaced (top_items top)) }
+fn add_top(text: &mut Vec<u8>, top: u16) -> Result<(), AllocError>
+    ensures { OnOk result (text.new.items ≡ text.old.items ++ spaced (value_items top_item top)) }
 {
     if top == SCANLINE - 1 {
         return Ok(());
@@ -209,8 +210,8 @@ pub(crate) fn add_top(text: &mut Vec<u8>, top: u16) -> Result<(), AllocError>
 }
 
 /// Adds the item of TEMP, unless that may be any byte.
-pub(crate) fn add_temp(text: &mut Vec<u8>, temp: Span) -> Result<(), AllocError>
-    ensures { OnOk result (text.new.items ≡ text.old.items ++ spaced (temp_items temp)) }
+fn add_temp(text: &mut Vec<u8>, temp: Span) -> Result<(), AllocError>
+    ensures { OnOk result (text.new.items ≡ text.old.items ++ spaced (value_items temp_item temp)) }
 {
     if temp.lo() == 0 && temp.hi() == 255 {
         return Ok(());
@@ -220,7 +221,7 @@ pub(crate) fn add_temp(text: &mut Vec<u8>, temp: Span) -> Result<(), AllocError>
 }
 
 /// Adds the items of successors.
-pub(crate) fn add_successors(text: &mut Vec<u8>, ids: &[u32]) -> Result<(), AllocError>
+fn add_successors(text: &mut Vec<u8>, ids: &[u32]) -> Result<(), AllocError>
     ensures { OnOk result (text.new.items ≡ text.old.items ++ spaced (successor_items ids.now)) }
 {
     for id in ids {
@@ -228,6 +229,15 @@ pub(crate) fn add_successors(text: &mut Vec<u8>, ids: &[u32]) -> Result<(), Allo
         add_decimal(text, *id)?;
     }
     Ok(())
+}
+
+/// Adds the items of one value, and the successors.
+pub(crate) fn add_onward(text: &mut Vec<u8>, point: &Point) -> Result<(), AllocError>
+    ensures { OnOk result (text.new.items ≡ text.old.items ++ onward_text point.now) }
+{
+    add_top(text, point.top)?;
+    add_temp(text, point.temp)?;
+    add_successors(text, point.next.as_slice())
 }
 
 /// Ranges as facts.

@@ -2,13 +2,12 @@
 
 ghost use Rattle.std.specs.Prelude.{◌≡◌, ◌≤◌, ◌++◌, OnOk, length, map};
 ghost use Rattle.uz_cert_writer.specs.Joined.{ended, line_end, spaced, rest_text, entry_place, entry_facts, entry_text};
-ghost use Rattle.uz_cert_writer.specs.Joined.{point_box, point_steps, point_place, core_text, memory_text, onward_text, point_text};
+ghost use Rattle.uz_cert_writer.specs.Joined.{point_box, point_steps, point_place, core_text, memory_text, point_text};
 ghost use Rattle.uz_cert_writer.specs.Spelling.{ends_word, rest_words, kind_word, entry_words, truth_word, point_words, line_of};
 
 use crate::facts::add_span;
 use crate::items::{
-    add_cells, add_flags, add_pairs, add_registers, add_slots, add_successors, add_temp, add_top,
-    facts_of,
+    add_cells, add_flags, add_onward, add_pairs, add_registers, add_slots, facts_of,
 };
 use crate::words::{add_byte, add_number, add_numbers, add_signed, add_word, end_line};
 use std::alloc::AllocError;
@@ -131,15 +130,6 @@ fn add_memory(text: &mut Vec<u8>, cells: &[Cell], point: &Point) -> Result<(), A
 {
     add_slots(text, point.stack.as_slice())?;
     add_cells(text, point.kind, cells, point.cells.as_slice())
-}
-
-/// Adds what is known of the timer, and the successors.
-fn add_onward(text: &mut Vec<u8>, point: &Point) -> Result<(), AllocError>
-    ensures { OnOk result (text.new.items ≡ text.old.items ++ onward_text point.now) }
-{
-    add_top(text, point.top)?;
-    add_temp(text, point.temp)?;
-    add_successors(text, point.next.as_slice())
 }
 
 /// The word of a truth.

@@ -18,9 +18,9 @@ returns-in-Err c =
           elim c.in-Err.ensures.err [
             | inl m ↦ inl m
             | inr f ↦ inr (sym c.loop-left.invariant.same ∙ (ap (λ o. read_from draft (pieces_left o)) c.in-Some.is
-                ∙ (step_fault draft c.in-Some-due.due c.cut_line.result.0.now (pieces_of c.in-Some.text.now)
+                ∙ (step_fault draft c.in-Some-expected_line.expected c.cut_line.result.0.now (pieces_of c.in-Some.text.now)
                 (pieces_left c.cut_line.result.1) c.is_left.result
-                c.in-Err.error.why c.cut_line.ensures.pieces (sym c.due.ensures ∙ c.in-Some-due.is) c.is_left.ensures f.1
+                c.in-Err.error.why c.cut_line.ensures.pieces (sym c.expected_line.ensures ∙ c.in-Some-expected_line.is) c.is_left.ensures f.1
                 ∙ ap (λ n. fault n c.in-Err.error.why) (sym f.0))))
           ];
       well_formed = tt;
@@ -29,7 +29,7 @@ returns-in-Err c =
 pub returns-in-None-clause-well_formed : goal.returns-in-None-clause-well_formed
 returns-in-None-clause-well_formed c =
     gives_fits c.loop-left.draft c.cut_line.result.0.now (pieces_left c.cut_line.result.1) c.finish.result c.loop-left.invariant.kept
-    (sym c.due.ensures ∙ c.in-None.is) c.finish.ensures
+    (sym c.expected_line.ensures ∙ c.in-None.is) c.finish.ensures
 
 pub loop-left-preserved : goal.loop-left-preserved
 loop-left-preserved c =
@@ -39,9 +39,9 @@ loop-left-preserved c =
     let read = c.in-Ok.ensures.read in
     record {
       same =
-          step_on draft c.take.new.self c.in-Some-due.due c.cut_line.result.0.now (pieces_of c.in-Some.text.now)
+          step_on draft c.take.new.self c.in-Some-expected_line.expected c.cut_line.result.0.now (pieces_of c.in-Some.text.now)
           (pieces_left c.cut_line.result.1) c.is_left.result
-          c.cut_line.ensures.pieces (sym c.due.ensures ∙ c.in-Some-due.is) c.is_left.ensures c.in-Ok.ensures.ok
+          c.cut_line.ensures.pieces (sym c.expected_line.ensures ∙ c.in-Some-expected_line.is) c.is_left.ensures c.in-Ok.ensures.ok
           ∙ (ap (λ o. read_from draft (pieces_left o)) (sym c.in-Some.is) ∙ c.loop-left.invariant.same);
       kept = c.in-Ok.ensures.kept;
       few = omega (arith, held, fewer, read);

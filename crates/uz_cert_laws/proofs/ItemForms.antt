@@ -1,42 +1,21 @@
--- What it takes that an item is taken: its word is spelled as one of the eight forms, and it sets one thing.
-use Rattle.std.proofs.Common.{◌≡◌, ℕ, zero, suc, ◌+◌, ◌<◌, ◌≤◌, ◌^◌, Bool, true, false, cond, not, ◌&&◌, ◌||◌, eqb, leb, ltb, List, []}
-use Rattle.std.proofs.Common.{◌∷◌, ◌++◌, length, decimal, codes, bytes_eq, lit<, lit≤, refl, sym, ◌∙◌, ap, subst, arith}
-use Rattle.std.specs.Prelude.{Option, Some, None, Result, Ok, Err, All, slice_get, slice_set, slice_index}
-use Rattle.std.proofs.lemmas.List.Elements.{All-head, All-tail}
-use Rattle.uz_hex.specs.Cutting.{cut_at}
-use Rattle.uz_hex.specs.Numbers.{is_numeral, number_below}
-use Rattle.uz_hex.proofs.Cuts.{cut_read}
-use Rattle.uz_hex.proofs.NumberWords.{number_read}
-use Rattle.uz_schedule.specs.Ends.{Ends}
-use Rattle.uz_schedule.specs.Limits.{is_top}
-use Rattle.uz_schedule.specs.Schedule.{scanline}
-use Rattle.uz_schedule.specs.Tracked.{tracks}
-use Rattle.uz_schedule.specs.WellFormed.{PartFits, is_default_flag}
-use Rattle.uz_schedule.specs.declared.header.Cell.{Cell}
-use Rattle.uz_schedule.specs.declared.facts.Fact.{Fact}
-use Rattle.uz_schedule.specs.declared.facts.PairFact.{PairFact}
-use Rattle.uz_schedule.specs.declared.facts.Bit.{Bit}
-use Rattle.uz_cert_lines.specs.Why.{◌>>=◌}
-use Rattle.uz_cert_lines.specs.Values.{digits, one_number, range, raw_of, fact_of, pair_of, ends_of, bit_of}
-use Rattle.uz_cert_lines.specs.Defaults.{is_default, is_any_pair, is_range, is_default_top}
-use Rattle.uz_cert_lines.specs.Items.{in_order, is_handler, bytes_forms, register_set, register_key, take_register, pair_forms, pair_set}
-use Rattle.uz_cert_lines.specs.Items.{take_pair}
-use Rattle.uz_cert_lines.specs.Items.{flag_set, take_flag, slot_set, slot_room, take_slot, tracked_before, with_number, cell_at, cell_forms}
-use Rattle.uz_cert_lines.specs.Items.{numbered}
-use Rattle.uz_cert_lines.specs.Items.{cell_set, cell_value, take_cell, successor_set, take_successor, is_flag_z, take_letter, take_keyed}
-use Rattle.uz_cert_lines.specs.Items.{top_set, top_value, take_top, temp_forms, temp_set, take_temp, take_cut}
-use Rattle.uz_cert_lines.specs.Items.{take_named, take_second, take_item}
-use Rattle.uz_cert_lines.specs.declared.values.FactForms.{FactForms}
-use Rattle.uz_cert_lines.specs.declared.values.Raw.{Raw}
-use Rattle.uz_cert_lines.specs.declared.items.Shape.{Shape}
-use Rattle.uz_cert_lines.specs.declared.items.Facts.{Facts}
-use Rattle.uz_cert_lines.specs.declared.why.CertWhy.{CertWhy}
+-- What it takes that an item is taken: its word is spelled as one of seven forms, and it sets one thing.
+use Rattle.uz_cert_laws.proofs.Common.{◌≡◌, ℕ, zero, suc, ◌+◌, ◌<◌, ◌≤◌, ◌^◌, Bool, true, false, cond, not, ◌||◌, eqb, leb, ltb, List}
+use Rattle.uz_cert_laws.proofs.Common.{[], ◌∷◌, ◌++◌, length, decimal, codes, lit<, lit≤, refl, sym, ◌∙◌, ap, subst, arith}
+use Rattle.uz_cert_laws.proofs.Common.{Option, Some, None, Result, Ok, Err, slice_get, slice_set, All-head, All-tail, cut_at, is_numeral}
+use Rattle.uz_cert_laws.proofs.Common.{number_below, cut_read, number_read, tracks, is_default_flag, Cell, Fact, PairFact, Bit, ◌>>=◌}
+use Rattle.uz_cert_laws.proofs.Common.{digits, raw_of, fact_of, pair_of, bit_of, is_default, is_any_pair, is_range, is_handler, bytes_forms}
+use Rattle.uz_cert_laws.proofs.Common.{register_set, register_key, take_register, pair_forms, pair_set, take_pair, flag_set, take_flag}
+use Rattle.uz_cert_laws.proofs.Common.{slot_set, slot_room, take_slot, tracked_before, with_number, cell_at, cell_forms, numbered, cell_set}
+use Rattle.uz_cert_laws.proofs.Common.{cell_value, take_cell, successor_set, take_successor, is_flag_z, take_letter, take_cut, named_items}
+use Rattle.uz_cert_laws.proofs.Common.{named_place, successors_place, NamedValues, named_of, with_named, take_named, take_second, take_item}
+use Rattle.uz_cert_laws.proofs.Common.{FactForms, Raw, Shape, Facts, CertWhy, item, fact_word, pair_word, flag_word}
+use Rattle.std.specs.Prelude.{All, slice_index}
+use Rattle.uz_cert_lines.specs.Items.{take_keyed}
 use Rattle.uz_cert_lines.specs.declared.why.CertWhy.TheVariants as why
-use Rattle.uz_cert_writer.specs.Spelling.{range_word, item, fact_word, pair_word, flag_word}
-use Rattle.uz_cert_laws.proofs.Tests.{tested, and_true, both_true, or_false, not_true, fine_is, fault_not, passed, failed, so, bind_ok, then, le_is}
-use Rattle.uz_cert_laws.proofs.Tests.{is_le, lt_is, number_is, word_is}
-use Rattle.uz_cert_laws.proofs.Numbers.{one_only}
-use Rattle.uz_cert_laws.proofs.Facts.{FactIn, fact_only, PairIn, pair_only, BitIn, bit_only, temp_only}
+use Rattle.uz_cert_laws.proofs.Tests.{tested, or_false, fine_is, fault_not, passed, failed, bind_ok, le_is}
+use Rattle.uz_cert_laws.proofs.Tests.{lt_is, number_is}
+use Rattle.uz_cert_laws.proofs.Named.{order_is, SetsOne, listed_taken}
+use Rattle.uz_cert_laws.proofs.Facts.{FactIn, fact_only, PairIn, pair_only, BitIn, bit_only}
 
 -- what items set
 
@@ -56,14 +35,8 @@ abbrev pub with_cell : Shape → List Cell → Facts → ℕ → Fact → Facts
 with_cell shape cells facts i f =
     record facts { cells = record { items = slice_set facts.cells.items (tracked_before shape.kind i cells) f }; least = 44 + i }
 
-abbrev pub with_top : Facts → ℕ → Facts
-with_top facts top = record facts { top = top; least = 60 }
-
-abbrev pub with_temp : Facts → Ends → Facts
-with_temp facts temp = record facts { temp = temp; least = 61 }
-
 abbrev pub with_successor : Facts → ℕ → Facts
-with_successor facts id = record facts { next = record { items = facts.next.items ++ id ∷ [] }; after = id + 1; least = 61 }
+with_successor facts id = record facts { next = record { items = facts.next.items ++ id ∷ [] }; after = id + 1; least = successors_place }
 
 -- the letters of pairs and flags
 
@@ -73,16 +46,16 @@ pair_letter k = slice_index (codes "xyz") k
 abbrev pub flag_letter : ℕ → ℕ
 flag_letter b = slice_index (codes "cznvsht") b
 
--- one of the eight
+-- one of them
 
-pub record TakesRegister (shape : Shape) (facts : Facts) (w : List ℕ) (r : ℕ) (f : Fact) : Type 0 where
+pub record RegisterForm (shape : Shape) (facts : Facts) (w : List ℕ) (r : ℕ) (f : Fact) : Type 0 where
   pub word : w ≡ item (114 ∷ decimal r) (fact_word f)
   pub there : r < 32
   pub fits : FactIn (bytes_forms shape) f
   pub order : facts.least ≤ r
   pub other : is_default shape.kind r f ≡ false
 
-pub record TakesPair (shape : Shape) (facts : Facts) (w : List ℕ) (later : List (List ℕ)) (k : ℕ) (f : PairFact) : Type 0 where
+pub record PairForm (shape : Shape) (facts : Facts) (w : List ℕ) (later : List (List ℕ)) (k : ℕ) (f : PairFact) : Type 0 where
   pub word : w ≡ item (pair_letter k ∷ []) (pair_word f)
   pub there : k < 3
   pub whole : shape.plain ≡ false
@@ -91,7 +64,7 @@ pub record TakesPair (shape : Shape) (facts : Facts) (w : List ℕ) (later : Lis
   pub other : is_any_pair f ≡ false
   pub meant : k ≡ 2 → is_flag_z shape facts (pair_word f) later ≡ false
 
-pub record TakesFlag (shape : Shape) (facts : Facts) (w : List ℕ) (later : List (List ℕ)) (b : ℕ) (bit : Bit) : Type 0 where
+pub record FlagForm (shape : Shape) (facts : Facts) (w : List ℕ) (later : List (List ℕ)) (b : ℕ) (bit : Bit) : Type 0 where
   pub word : w ≡ item (flag_letter b ∷ []) (flag_word bit)
   pub there : b < 7
   pub fits : BitIn (is_handler shape.kind) bit
@@ -99,7 +72,7 @@ pub record TakesFlag (shape : Shape) (facts : Facts) (w : List ℕ) (later : Lis
   pub other : is_default_flag shape.kind bit ≡ false
   pub meant : b ≡ 1 → is_flag_z shape facts (flag_word bit) later ≡ true
 
-pub record TakesSlot (shape : Shape) (facts : Facts) (w : List ℕ) (f : Fact) : Type 0 where
+pub record SlotForm (shape : Shape) (facts : Facts) (w : List ℕ) (f : Fact) : Type 0 where
   pub word : w ≡ codes "s:" ++ fact_word f
   pub fits : FactIn (bytes_forms shape) f
   pub room : length facts.stack.items < shape.depth
@@ -108,7 +81,7 @@ pub record TakesSlot (shape : Shape) (facts : Facts) (w : List ℕ) (f : Fact) :
 abbrev pub cell_form : Shape → Cell → FactForms
 cell_form shape c = cell_forms shape (Some (0, c))
 
-pub record TakesCell (shape : Shape) (cells : List Cell) (facts : Facts) (w : List ℕ) (i : ℕ) (c : Cell) (f : Fact) : Type 0 where
+pub record CellForm (shape : Shape) (cells : List Cell) (facts : Facts) (w : List ℕ) (i : ℕ) (c : Cell) (f : Fact) : Type 0 where
   pub word : w ≡ item (109 ∷ decimal i) (fact_word f)
   pub below : i < length cells
   pub there : slice_get cells i ≡ Some c
@@ -117,63 +90,35 @@ pub record TakesCell (shape : Shape) (cells : List Cell) (facts : Facts) (w : Li
   pub order : facts.least ≤ 43 + i
   pub other : is_range c.range f ≡ false
 
-pub record TakesTop (shape : Shape) (facts : Facts) (w : List ℕ) (top : ℕ) : Type 0 where
-  pub word : w ≡ item (codes "top") (decimal top)
-  pub timed : shape.timed ≡ true
-  pub fits : is_top top ≡ true
-  pub order : facts.least ≤ 59
-  pub other : is_default_top top ≡ false
-
-pub record TakesTemp (shape : Shape) (facts : Facts) (w : List ℕ) (temp : Ends) : Type 0 where
-  pub word : w ≡ item (codes "temp") (range_word temp)
-  pub timed : shape.timed ≡ true
-  pub fits : PartFits 255 temp
-  pub order : facts.least ≤ 60
-
-pub record TakesSuccessor (shape : Shape) (facts : Facts) (w : List ℕ) (id : ℕ) : Type 0 where
+pub record SuccessorForm (shape : Shape) (facts : Facts) (w : List ℕ) (id : ℕ) : Type 0 where
   pub word : w ≡ 62 ∷ decimal id
   pub whole : shape.plain ≡ false
   pub there : id < shape.points
   pub room : length facts.next.items < 16
   pub order : facts.after ≤ id
 
-pub data Taken (shape : Shape) (cells : List Cell) (facts : Facts) (w : List ℕ) (later : List (List ℕ)) (more : Facts) : Type 0 where
-  register : (r : ℕ) (f : Fact) → TakesRegister shape facts w r f → more ≡ with_register facts r f → Taken shape cells facts w later more
-  pair : (k : ℕ) (f : PairFact) → TakesPair shape facts w later k f → more ≡ with_pair facts k f → Taken shape cells facts w later more
-  flag : (b : ℕ) (bit : Bit) → TakesFlag shape facts w later b bit → more ≡ with_flag facts b bit → Taken shape cells facts w later more
-  slot : (f : Fact) → TakesSlot shape facts w f → more ≡ with_slot facts f → Taken shape cells facts w later more
-  cell : (i : ℕ) (c : Cell) (f : Fact) → TakesCell shape cells facts w i c f → more ≡ with_cell shape cells facts i f → Taken shape cells
+pub data HasForm (shape : Shape) (cells : List Cell) (facts : Facts) (w : List ℕ) (later : List (List ℕ)) (more : Facts) : Type 0 where
+  register : (r : ℕ) (f : Fact) → RegisterForm shape facts w r f → more ≡ with_register facts r f → HasForm shape cells facts w later more
+  pair : (k : ℕ) (f : PairFact) → PairForm shape facts w later k f → more ≡ with_pair facts k f → HasForm shape cells facts w later more
+  flag : (b : ℕ) (bit : Bit) → FlagForm shape facts w later b bit → more ≡ with_flag facts b bit → HasForm shape cells facts w later more
+  slot : (f : Fact) → SlotForm shape facts w f → more ≡ with_slot facts f → HasForm shape cells facts w later more
+  cell : (i : ℕ) (c : Cell) (f : Fact) → CellForm shape cells facts w i c f → more ≡ with_cell shape cells facts i f → HasForm shape cells
       facts w later more
-  timer_top : (top : ℕ) → TakesTop shape facts w top → more ≡ with_top facts top → Taken shape cells facts w later more
-  timer_temp : (temp : Ends) → TakesTemp shape facts w temp → more ≡ with_temp facts temp → Taken shape cells facts w later more
-  successor : (id : ℕ) → TakesSuccessor shape facts w id → more ≡ with_successor facts id → Taken shape cells facts w later more
+  listed : (v : NamedValues named_items) (next : ℕ) → SetsOne named_items named_place shape facts.least (named_of facts) w v next
+      → more ≡ with_named facts v next → HasForm shape cells facts w later more
+  successor : (id : ℕ) → SuccessorForm shape facts w id → more ≡ with_successor facts id → HasForm shape cells facts w later more
 
 -- what is taken is one of these
-
-order_is : (facts more : Facts) (place : ℕ) (t : Bool) (set : Facts) → in_order facts place t >>= (λ p. Ok set) ≡ Ok more
-    → (facts.least ≤ place) × (t ≡ false) × (more ≡ set)
-order_is facts more place t set e =
-    let m = bind_ok (in_order facts place t) (λ p. Ok set) more e in
-    let p = passed (leb facts.least place && not t) (Ok place) why.Order m.0 m.1 in
-    let two = and_true (leb facts.least place) (not t) p.0 in
-    (le_is facts.least place two.0, not_true t two.1, sym (fine_is set more m.2))
-
-pub order_so : (facts : Facts) (place : ℕ) (t : Bool) (set : Facts) → facts.least ≤ place → t ≡ false → in_order facts place t >>=
-    (λ p. Ok set) ≡ Ok set
-order_so facts place t set l e =
-    then (in_order facts place t) (λ p. Ok set) place (Ok set)
-    (so (leb facts.least place && not t) (Ok place) (Err why.Order) (both_true (leb facts.least place) (not t) (is_le facts.least place l)
-    (ap not e))) refl
 
 bytes_limit : (shape : Shape) → (bytes_forms shape).limit ≤ 256
 bytes_limit shape = lit≤ tt
 
 register_taken : (shape : Shape) (cells : List Cell) (facts : Facts) (w key value : List ℕ) (later : List (List ℕ)) (more : Facts)
-    → w ≡ (114 ∷ key) ++ 61 ∷ value → take_register shape facts key value ≡ Ok more → Taken shape cells facts w later more
+    → w ≡ (114 ∷ key) ++ 61 ∷ value → take_register shape facts key value ≡ Ok more → HasForm shape cells facts w later more
 unfolding take_register
 register_taken shape cells facts w key value later more e h = by_key (number_below 32 key) refl h
   where
-    by_key : (o : Option ℕ) → number_below 32 key ≡ o → register_key shape facts value o ≡ Ok more → Taken shape cells facts w later more
+    by_key : (o : Option ℕ) → number_below 32 key ≡ o → register_key shape facts value o ≡ Ok more → HasForm shape cells facts w later more
     by_key None k h = absurd (fault_not why.Word more h)
     by_key (Some r) k h =
         let number = number_read 32 r key (lit≤ tt) k in
@@ -192,7 +137,7 @@ register_taken shape cells facts w key value later more e h = by_key (number_bel
 
 pair_taken : (shape : Shape) (cells : List Cell) (facts : Facts) (w value : List ℕ) (later : List (List ℕ)) (k : ℕ) (more : Facts)
     → w ≡ pair_letter k ∷ 61 ∷ value → k < 3 → (k ≡ 2 → is_flag_z shape facts value later ≡ false) → take_pair shape facts k value ≡ Ok more
-    → Taken shape cells facts w later more
+    → HasForm shape cells facts w later more
 unfolding take_pair
 pair_taken shape cells facts w value later k more e there z h =
     let p = failed shape.plain (raw_of pair_forms value >>= (λ raw. pair_of raw >>= (λ fact. pair_set facts k fact))) why.Word more h in
@@ -213,7 +158,7 @@ pair_taken shape cells facts w value later k more e there z h =
 
 flag_taken : (shape : Shape) (cells : List Cell) (facts : Facts) (w value : List ℕ) (later : List (List ℕ)) (b : ℕ) (more : Facts)
     → w ≡ flag_letter b ∷ 61 ∷ value → b < 7 → (b ≡ 1 → is_flag_z shape facts value later ≡ true) → take_flag shape facts b value ≡ Ok more
-    → Taken shape cells facts w later more
+    → HasForm shape cells facts w later more
 unfolding take_flag
 flag_taken shape cells facts w value later b more e there z h =
     let m = bind_ok (bit_of (is_handler shape.kind) value) (λ bit. flag_set shape facts b bit) more h in
@@ -230,7 +175,7 @@ flag_taken shape cells facts w value later b more e there z h =
     }) set.2
 
 slot_taken : (shape : Shape) (cells : List Cell) (facts : Facts) (w value : List ℕ) (later : List (List ℕ)) (more : Facts)
-    → w ≡ 115 ∷ 58 ∷ value → take_slot shape facts value ≡ Ok more → Taken shape cells facts w later more
+    → w ≡ 115 ∷ 58 ∷ value → take_slot shape facts value ≡ Ok more → HasForm shape cells facts w later more
 unfolding take_slot
 slot_taken shape cells facts w value later more e h =
     let m = bind_ok (raw_of (bytes_forms shape) value)
@@ -295,7 +240,7 @@ cell_there cells (Some i) p e = by_cell (slice_get cells i) refl e
 
 cell_taken : (shape : Shape) (cells : List Cell) (facts : Facts) (w key value : List ℕ) (later : List (List ℕ)) (more : Facts)
     → length cells ≤ 16 → CellsAreBytes cells
-    → w ≡ (109 ∷ key) ++ 61 ∷ value → take_cell shape cells facts key value ≡ Ok more → Taken shape cells facts w later more
+    → w ≡ (109 ∷ key) ++ 61 ∷ value → take_cell shape cells facts key value ≡ Ok more → HasForm shape cells facts w later more
 unfolding take_cell
 cell_taken shape cells facts w key value later more few bytes e h =
     by_cell (cell_at cells (number_below (length cells) key)) refl m.1 m.2
@@ -312,7 +257,7 @@ cell_taken shape cells facts w key value later more few bytes e h =
 
     by_cell : (o : Option (ℕ × Cell)) → cell_at cells (number_below (length cells) key) ≡ o
         → numbered (is_numeral key) (raw_of (cell_forms shape o) value) ≡ Ok m.0 → cell_value shape cells facts o m.0 ≡ Ok more
-        → Taken shape cells facts w later more
+        → HasForm shape cells facts w later more
     by_cell None at v h = absurd (fault_not why.Unknown more h)
     by_cell (Some q) at v h =
         let raw = numbered_is (is_numeral key) (raw_of (cell_forms shape (Some q)) value) m.0 v in
@@ -335,38 +280,8 @@ cell_taken shape cells facts w key value later more few bytes e h =
           other = set.1;
         }) set.2
 
-top_taken : (shape : Shape) (cells : List Cell) (facts : Facts) (w value : List ℕ) (later : List (List ℕ)) (more : Facts)
-    → w ≡ codes "top" ++ 61 ∷ value → take_top shape facts value ≡ Ok more → Taken shape cells facts w later more
-unfolding take_top
-top_taken shape cells facts w value later more e h =
-    let p = passed shape.timed (one_number 0 scanline value >>= (λ top. top_value facts top)) why.Word more h in
-    let m = bind_ok (one_number 0 scanline value) (λ top. top_value facts top) more p.1 in
-    let number = one_only 0 scanline m.0 value (lit≤ tt) m.1 in
-    let last = passed (is_top m.0) (top_set facts m.0) why.Limit more m.2 in
-    let set = order_is facts more 59 (is_default_top m.0) (with_top facts m.0) last.1 in
-    timer_top m.0
-    (record {
-      word = e ∙ ap (λ t. codes "top" ++ 61 ∷ t) number.0;
-      timed = p.0;
-      fits = last.0;
-      order = set.0;
-      other = set.1;
-    }) set.2
-
-temp_taken : (shape : Shape) (cells : List Cell) (facts : Facts) (w value : List ℕ) (later : List (List ℕ)) (more : Facts)
-    → w ≡ codes "temp" ++ 61 ∷ value → take_temp shape facts value ≡ Ok more → Taken shape cells facts w later more
-unfolding take_temp
-temp_taken shape cells facts w value later more e h =
-    let p = passed shape.timed (range temp_forms value >>= (λ raw. ends_of raw >>= (λ temp. temp_set facts temp))) why.Word more h in
-    let m = bind_ok (range temp_forms value) (λ raw. ends_of raw >>= (λ temp. temp_set facts temp)) more p.1 in
-    let n = bind_ok (ends_of m.0) (λ temp. temp_set facts temp) more m.2 in
-    let is = temp_only value m.0 n.0 m.1 n.1 in
-    let set = order_is facts more 60 false (with_temp facts n.0) n.2 in
-    timer_temp n.0
-    (record { word = e ∙ ap (λ t. codes "temp" ++ 61 ∷ t) is.0; timed = p.0; fits = is.1; order = set.0 }) set.2
-
 successor_taken : (shape : Shape) (cells : List Cell) (facts : Facts) (w id : List ℕ) (later : List (List ℕ)) (more : Facts)
-    → shape.points ≤ 2 ^ 32 → w ≡ 62 ∷ id → take_successor shape facts id ≡ Ok more → Taken shape cells facts w later more
+    → shape.points ≤ 2 ^ 32 → w ≡ 62 ∷ id → take_successor shape facts id ≡ Ok more → HasForm shape cells facts w later more
 unfolding take_successor
 successor_taken shape cells facts w id later more points e h =
     by_number (number_below shape.points id) refl r.1
@@ -385,7 +300,7 @@ successor_taken shape cells facts w id later more points e h =
     r : (ltb (length facts.next.items) 16 ≡ true) × (successor_set facts (number_below shape.points id) ≡ Ok more)
     r = passed (ltb (length facts.next.items) 16) (successor_set facts (number_below shape.points id)) why.Limit more q.1
 
-    by_number : (o : Option ℕ) → number_below shape.points id ≡ o → successor_set facts o ≡ Ok more → Taken shape cells facts w later more
+    by_number : (o : Option ℕ) → number_below shape.points id ≡ o → successor_set facts o ≡ Ok more → HasForm shape cells facts w later more
     by_number None n h = absurd (fault_not why.Unknown more h)
     by_number (Some n) is h =
         let number = number_read shape.points n id points is in
@@ -402,7 +317,7 @@ successor_taken shape cells facts w id later more points e h =
 -- items that are named by a letter
 
 letter_taken : (shape : Shape) (cells : List Cell) (facts : Facts) (w value : List ℕ) (letter : ℕ) (later : List (List ℕ)) (more : Facts)
-    → w ≡ letter ∷ 61 ∷ value → take_letter shape facts letter value later ≡ Ok more → Taken shape cells facts w later more
+    → w ≡ letter ∷ 61 ∷ value → take_letter shape facts letter value later ≡ Ok more → HasForm shape cells facts w later more
 unfolding take_letter
 letter_taken shape cells facts w value letter later more e h =
     tested (eqb letter 120) h (λ t. is_pair 0 120 (lit< tt) refl t (λ k. absurd (omega (arith, k))))
@@ -418,11 +333,11 @@ letter_taken shape cells facts w value letter later more e h =
     (λ _ h. absurd (fault_not why.Word more h))))))))))
   where
     is_pair : (k c : ℕ) → k < 3 → c ≡ pair_letter k → eqb letter c ≡ true → (k ≡ 2 → is_flag_z shape facts value later ≡ false)
-        → take_pair shape facts k value ≡ Ok more → Taken shape cells facts w later more
+        → take_pair shape facts k value ≡ Ok more → HasForm shape cells facts w later more
     is_pair k c l is t z = pair_taken shape cells facts w value later k more (e ∙ ap (λ x. x ∷ 61 ∷ value) (number_is letter c t ∙ is)) l z
 
     is_flag : (b c : ℕ) → b < 7 → c ≡ flag_letter b → eqb letter c ≡ true → (b ≡ 1 → is_flag_z shape facts value later ≡ true)
-        → take_flag shape facts b value ≡ Ok more → Taken shape cells facts w later more
+        → take_flag shape facts b value ≡ Ok more → HasForm shape cells facts w later more
     is_flag b c l is t z = flag_taken shape cells facts w value later b more (e ∙ ap (λ x. x ∷ 61 ∷ value) (number_is letter c t ∙ is)) l z
 
 -- items that have a name
@@ -434,7 +349,7 @@ pub record PlacesFit (shape : Shape) (cells : List Cell) : Type 0 where
   pub points : shape.points ≤ 2 ^ 32
 
 keyed_taken : (shape : Shape) (cells : List Cell) (facts : Facts) (w key value : List ℕ) (later : List (List ℕ)) (more : Facts)
-    → PlacesFit shape cells → w ≡ key ++ 61 ∷ value → take_keyed shape cells facts key value later ≡ Ok more → Taken shape cells facts w
+    → PlacesFit shape cells → w ≡ key ++ 61 ∷ value → take_keyed shape cells facts key value later ≡ Ok more → HasForm shape cells facts w
     later more
 keyed_taken shape cells facts w [] value later more fits e h = absurd (fault_not why.Word more h)
 keyed_taken shape cells facts w (c ∷ cs) value later more fits e h =
@@ -442,9 +357,8 @@ keyed_taken shape cells facts w (c ∷ cs) value later more fits e h =
     (λ _ h. tested (eqb c 109) h (λ t. cell_taken shape cells facts w cs value later more fits.few fits.bytes (at 109 t))
     (λ _ h. tested (eqb (length cs) 0) h
     (λ t. letter_taken shape cells facts w value c later more (e ∙ ap (λ ks. (c ∷ ks) ++ 61 ∷ value) (no_key cs t)))
-    (λ _ h. tested (bytes_eq (c ∷ cs) (codes "top")) h (λ t. top_taken shape cells facts w value later more (named (codes "top") t))
-    (λ _ h. tested (bytes_eq (c ∷ cs) (codes "temp")) h (λ t. temp_taken shape cells facts w value later more (named (codes "temp") t))
-    (λ _ h. absurd (fault_not why.Word more h))))))
+    (λ _ h. let m = listed_taken named_items named_place shape facts (named_of facts) (with_named facts) w (c ∷ cs) value more refl e h in
+    listed m.0 m.1 m.2 m.3)))
   where
     at : (b : ℕ) → eqb c b ≡ true → w ≡ (b ∷ cs) ++ 61 ∷ value
     at b t = e ∙ ap (λ x. (x ∷ cs) ++ 61 ∷ value) (number_is c b t)
@@ -456,21 +370,18 @@ keyed_taken shape cells facts w (c ∷ cs) value later more fits e h =
         some : (n : ℕ) → suc n ≡ 0 → ⊥
         some n e = omega arith
 
-    named : (key : List ℕ) → bytes_eq (c ∷ cs) key ≡ true → w ≡ key ++ 61 ∷ value
-    named key t = e ∙ ap (λ ks. ks ++ 61 ∷ value) (word_is (c ∷ cs) key t)
-
 named_taken : (shape : Shape) (cells : List Cell) (facts : Facts) (w : List ℕ) (later : List (List ℕ)) (more : Facts)
-    → PlacesFit shape cells → take_named shape cells facts w later ≡ Ok more → Taken shape cells facts w later more
+    → PlacesFit shape cells → take_named shape cells facts w later ≡ Ok more → HasForm shape cells facts w later more
 unfolding take_named
 named_taken shape cells facts w later more fits h = by_cut (cut_at 61 w) refl h
   where
-    by_cut : (o : Option (List ℕ × List ℕ)) → cut_at 61 w ≡ o → take_cut shape cells facts o later ≡ Ok more → Taken shape cells facts w
+    by_cut : (o : Option (List ℕ × List ℕ)) → cut_at 61 w ≡ o → take_cut shape cells facts o later ≡ Ok more → HasForm shape cells facts w
         later more
     by_cut None c h = absurd (fault_not why.Word more h)
     by_cut (Some p) c h = keyed_taken shape cells facts w p.0 p.1 later more fits (cut_read 61 w p c) h
 
 pub item_taken : (shape : Shape) (cells : List Cell) (facts : Facts) (w : List ℕ) (later : List (List ℕ)) (more : Facts)
-    → PlacesFit shape cells → take_item shape cells facts w later ≡ Ok more → Taken shape cells facts w later more
+    → PlacesFit shape cells → take_item shape cells facts w later ≡ Ok more → HasForm shape cells facts w later more
 unfolding take_item
 item_taken shape cells facts [] later more fits h = absurd (fault_not why.Word more h)
 item_taken shape cells facts (c ∷ cs) later more fits h =
@@ -478,7 +389,7 @@ item_taken shape cells facts (c ∷ cs) later more fits h =
     (λ _ h. tested (eqb c 115) h (λ t. second t cs refl) (λ _. named_taken shape cells facts (c ∷ cs) later more fits))
   where
     second : eqb c 115 ≡ true → (ds : List ℕ) → cs ≡ ds → take_second shape cells facts (c ∷ cs) ds later ≡ Ok more
-        → Taken shape cells facts (c ∷ cs) later more
+        → HasForm shape cells facts (c ∷ cs) later more
     second s [] e h = named_taken shape cells facts (c ∷ cs) later more fits h
     second s (d ∷ ds) e h =
         tested (eqb d 58) h

@@ -1,42 +1,27 @@
 -- All items of a line: where they are read, they are what is spelled of the facts that they say.
-use Rattle.std.proofs.Common.{◌≡◌, ◌⊎◌, inl, inr, ℕ, zero, suc, ◌+◌, ◌<◌, ◌≤◌, Bool, true, false, cond, not, ◌&&◌, ◌||◌, eqb, ltb, List, []}
-use Rattle.std.proofs.Common.{◌∷◌, ◌++◌, map, length, take, drop, get_or, decimal, codes, bytes_eq, lit<, lit≤, refl, sym, ◌∙◌, ap, subst}
-use Rattle.std.proofs.Common.{append_assoc, append-nil, arith}
-use Rattle.std.specs.Prelude.{Ok, All, slice_set}
-use Rattle.std.proofs.lemmas.List.Elements.{All-nil, All-head, All-tail}
-use Rattle.std.proofs.lemmas.Fmt.{decimal_digit}
-use Rattle.uz_schedule.specs.Ends.{Ends}
-use Rattle.uz_schedule.specs.Tracked.{tracks}
-use Rattle.uz_schedule.specs.WellFormed.{RangeFits, is_zero_or_one, is_default_flag, is_carry_and_zero_default}
-use Rattle.uz_schedule.specs.declared.kinds.Kind.{Kind}
-use Rattle.uz_schedule.specs.declared.kinds.Kind.TheVariants.{Main, Handler, Alone}
-use Rattle.uz_schedule.specs.declared.header.Cell.{Cell}
-use Rattle.uz_schedule.specs.declared.facts.Fact.{Fact}
-use Rattle.uz_schedule.specs.declared.facts.Fact.TheVariants.{Any, Between}
-use Rattle.uz_schedule.specs.declared.facts.PairFact.{PairFact}
+use Rattle.uz_cert_laws.proofs.Common.{◌≡◌, ◌⊎◌, inl, inr, ℕ, zero, suc, ◌+◌, ◌<◌, ◌≤◌, Bool, true, false, cond, not, ◌&&◌, ◌||◌, eqb, ltb}
+use Rattle.uz_cert_laws.proofs.Common.{List, [], ◌∷◌, ◌++◌, map, length, take, drop, get_or, decimal, codes, bytes_eq, lit<, lit≤, refl}
+use Rattle.uz_cert_laws.proofs.Common.{sym, ◌∙◌, ap, subst, append_assoc, append-nil, arith, Ok, slice_set, All-nil, All-head, All-tail}
+use Rattle.uz_cert_laws.proofs.Common.{decimal_digit, Ends, tracks, RangeFits, is_zero_or_one, is_default_flag, is_carry_and_zero_default}
+use Rattle.uz_cert_laws.proofs.Common.{Kind, Main, Handler, Alone, Cell, Fact, Any, Between, PairFact, Bit, Words, names_c_or_z, any_names}
+use Rattle.uz_cert_laws.proofs.Common.{first_facts, default_flag, is_handler, bytes_forms, pair_forms, is_flag_z, tracked_count, take_item}
+use Rattle.uz_cert_laws.proofs.Common.{items_from, read_items, FactForms, Shape, Facts, numbers_from, fact_word, pair_word, flag_word}
+use Rattle.uz_cert_laws.proofs.Common.{named_items, named_place, successors_place, named_of}
+use Rattle.std.specs.Prelude.{All}
 use Rattle.uz_schedule.specs.declared.facts.PairFact.TheVariants.{Any as AnyPair, Between as BetweenPair, Line as LinePair}
 use Rattle.uz_schedule.specs.declared.facts.PairFact.TheVariants.{Loop as LoopPair}
-use Rattle.uz_schedule.specs.declared.facts.Bit.{Bit}
-use Rattle.uz_cert_lines.specs.Grammar.{Words}
-use Rattle.uz_cert_lines.specs.FlagNames.{names_c_or_z, any_names}
-use Rattle.uz_cert_lines.specs.Items.{first_facts, default_flag, is_handler, bytes_forms, pair_forms}
-use Rattle.uz_cert_lines.specs.Items.{is_flag_z, tracked_count, take_item, items_from, read_items}
-use Rattle.uz_cert_lines.specs.declared.values.FactForms.{FactForms}
-use Rattle.uz_cert_lines.specs.declared.items.Shape.{Shape}
-use Rattle.uz_cert_lines.specs.declared.items.Facts.{Facts}
 use Rattle.uz_cert_lines.specs.declared.why.CertWhy.TheVariants as why
-use Rattle.uz_cert_writer.specs.Spelling.{numbers_from}
-use Rattle.uz_cert_writer.specs.Spelling.{range_word, fact_word, pair_word, flag_word}
-use Rattle.uz_cert_laws.proofs.Tests.{and_true, or_false, fine_is, fault_not, true_not, bind_ok, number_is, lt_is}
+use Rattle.uz_cert_laws.proofs.Tests.{both_of, and_true, or_false, fine_is, fault_not, true_not, bind_ok, number_is, lt_is}
 use Rattle.uz_cert_laws.proofs.Facts.{FactIn, PairIn, BitIn, part_from}
 use Rattle.uz_cert_laws.proofs.Options.{Each, each_length, each_map}
 use Rattle.uz_cert_laws.proofs.Spelled.{registers, numbered_cells, usual_fact, usual_bit, usual_cell}
 use Rattle.uz_cert_laws.proofs.Spelled.{registers_usual, cells_usual}
-use Rattle.uz_cert_laws.proofs.Taken.{with_pair, with_flag, TakesPair, TakesFlag, Taken, register, pair, flag, slot, cell, timer_top, timer_temp}
-use Rattle.uz_cert_laws.proofs.Taken.{successor, PlacesFit, cell_form, flag_letter, item_taken}
+use Rattle.uz_cert_laws.proofs.ItemForms.{with_pair, with_flag, PairForm, FlagForm, HasForm, register, pair, flag, slot, cell, listed}
+use Rattle.uz_cert_laws.proofs.ItemForms.{successor, PlacesFit, cell_form, flag_letter, item_taken}
 use Rattle.uz_cert_laws.specs.Spells.{letters_of_pairs, letters_of_flags, spelled}
-use Rattle.uz_cert_laws.proofs.OneMore.{Regular, all_items, values, are_sections, one_more}
+use Rattle.uz_cert_laws.proofs.GrowingFacts.{Regular, all_items, values, are_sections, one_more}
 use Rattle.uz_cert_laws.proofs.Sections.{all_empty}
+use Rattle.uz_cert_laws.proofs.Named.{say_usuals, fresh_usuals, sets_between, sets_other}
 
 -- the facts where nothing is said
 
@@ -96,39 +81,19 @@ first_regular shape cells h =
     let cs = cells_usual shape.kind 0 cells in
     record {
       few = lit≤ tt;
-      fit = (
-        (
-          subst (λ (x : List Fact). Each (λ r x. FactIn (bytes_forms shape) x) registers x) (sym rs)
-              (first_regs shape shape.kind refl h.whole),
-          rs,
-        ),
-        (
-          (((refl, lit< tt), ((refl, lit< tt), ((refl, lit< tt), tt))), refl),
-          (
-            (each_map (λ l x. BitIn (is_handler shape.kind) x) (usual_bit shape.kind) letters_of_flags (λ l. first_bit shape.kind), refl),
-            (
-              (omega arith, All-nil (FactIn (bytes_forms shape)), λ l. refl),
-              (
-                (
-                  subst (λ (x : List Fact). Each (λ p x. FactIn (cell_form shape p.1) x) (numbered_cells shape.kind 0 cells) x) (sym cs)
-                      (first_cells shape shape.kind 0 cells h.ranges),
-                  ap (λ (x : List Fact). drop (tracked_count shape.kind (take 0 cells)) x) cs,
-                ),
-                (
-                  (refl, λ l. refl),
-                  (
-                    (record { order = lit≤ tt; high = lit≤ tt }, λ l. refl),
-                    (lit≤ tt, All-nil (λ id. id < shape.points), refl, refl, λ l. refl),
-                  ),
-                ),
-              ),
-            ),
-          ),
-        ),
-      );
+      fit = both_of
+          (both_of (subst (λ (x : List Fact). Each (λ r x. FactIn (bytes_forms shape) x) registers x) (sym rs)
+          (first_regs shape shape.kind refl h.whole)) rs)
+          (both_of (both_of ((refl, lit< tt), ((refl, lit< tt), ((refl, lit< tt), tt))) refl)
+          (both_of (both_of (each_map (λ l x. BitIn (is_handler shape.kind) x) (usual_bit shape.kind) letters_of_flags
+          (λ l. first_bit shape.kind)) refl)
+          (both_of (omega arith, All-nil (FactIn (bytes_forms shape)), λ l. refl)
+          (both_of (both_of (subst (λ (x : List Fact). Each (λ p x. FactIn (cell_form shape p.1) x) (numbered_cells shape.kind 0 cells) x)
+          (sym cs) (first_cells shape shape.kind 0 cells h.ranges)) (ap (λ (x : List Fact). drop (tracked_count shape.kind (take 0 cells)) x) cs))
+          (both_of (both_of (say_usuals named_items shape refl) (fresh_usuals named_items named_place 0))
+          (lit≤ tt, All-nil (λ id. id < shape.points), refl, refl, λ l. refl))))));
       plain_pairs = λ p. refl;
       plain_next = λ p. refl;
-      untimed = λ u. (refl, refl);
     }
 
 pub first_nothing : (shape : Shape) (cells : List Cell) → ShapeFits shape cells → spelled shape.kind cells (first_facts shape.kind cells)
@@ -258,7 +223,7 @@ module _ (shape : Shape) (cells : List Cell) (f : Facts) (h : Regular shape cell
   late w ws least l other z one =
       elim (z one) [ inl m ↦ inl m | inr m ↦ inr (names_later w ws other m.0, omega (arith, m.1)) ]
 
-  z_pair : (k : ℕ) (x : PairFact) (w : List ℕ) (ws : List (List ℕ)) → TakesPair shape f w ws k x → ZFollows shape.kind f (w ∷ ws)
+  z_pair : (k : ℕ) (x : PairFact) (w : List ℕ) (ws : List (List ℕ)) → PairForm shape f w ws k x → ZFollows shape.kind f (w ∷ ws)
       → ZFollows shape.kind (with_pair f k x) ws
   z_pair k x w ws t z one = by_place (decide k t.there)
     where
@@ -282,7 +247,7 @@ module _ (shape : Shape) (cells : List Cell) (f : Facts) (h : Regular shape cell
         )
       ]
 
-  z_flag : (b : ℕ) (x : Bit) (w : List ℕ) (ws : List (List ℕ)) → TakesFlag shape f w ws b x → ZFollows shape.kind f (w ∷ ws)
+  z_flag : (b : ℕ) (x : Bit) (w : List ℕ) (ws : List (List ℕ)) → FlagForm shape f w ws b x → ZFollows shape.kind f (w ∷ ws)
       → ZFollows shape.kind (with_flag f b x) ws
   z_flag b x w ws t z one = by_place (decide b)
     where
@@ -303,7 +268,7 @@ module _ (shape : Shape) (cells : List Cell) (f : Facts) (h : Regular shape cell
         ]
       ]
 
-  z_follows : (w : List ℕ) (ws : List (List ℕ)) (more : Facts) → Taken shape cells f w ws more → ZFollows shape.kind f (w ∷ ws)
+  z_follows : (w : List ℕ) (ws : List (List ℕ)) (more : Facts) → HasForm shape cells f w ws more → ZFollows shape.kind f (w ∷ ws)
       → ZFollows shape.kind more ws
   z_follows w ws more (register r x t e) z =
       let order : f.least ≤ r = t.order in
@@ -317,15 +282,13 @@ module _ (shape : Shape) (cells : List Cell) (f : Facts) (h : Regular shape cell
   z_follows w ws more (cell i c x t e) z =
       subst (λ (a : Facts). ZFollows shape.kind a ws) (sym e)
       (late w ws (44 + i) (omega (arith, t.order)) (ap names_c_or_z t.word ∙ names_letter 109 (decimal i ++ 61 ∷ fact_word x) refl) z)
-  z_follows w ws more (timer_top top t e) z =
+  z_follows w ws more (listed v next t e) z =
       subst (λ (a : Facts). ZFollows shape.kind a ws) (sym e)
-      (late w ws 60 (omega (arith, t.order)) (ap names_c_or_z t.word ∙ names_letter 116 (111 ∷ 112 ∷ 61 ∷ decimal top) refl) z)
-  z_follows w ws more (timer_temp temp t e) z =
-      subst (λ (a : Facts). ZFollows shape.kind a ws) (sym e)
-      (late w ws 61 (omega (arith, t.order)) (ap names_c_or_z t.word ∙ names_letter 116 (101 ∷ 109 ∷ 112 ∷ 61 ∷ range_word temp) refl) z)
+      (late w ws next (omega (arith, (sets_between named_items named_place shape f.least (named_of f) w v next t).0))
+      (sets_other named_items named_place shape f.least (named_of f) w v next refl t) z)
   z_follows w ws more (successor id t e) z =
       subst (λ (a : Facts). ZFollows shape.kind a ws) (sym e)
-      (late w ws 61 h.few (ap names_c_or_z t.word ∙ names_letter 62 (decimal id) refl) z)
+      (late w ws successors_place h.few (ap names_c_or_z t.word ∙ names_letter 62 (decimal id) refl) z)
 
 -- all items
 

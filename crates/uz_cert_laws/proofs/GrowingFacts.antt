@@ -1,56 +1,42 @@
 -- Facts as they grow while items are read: what is spelled of them is what was read.
-use Rattle.std.proofs.Common.{◌≡◌, ℕ, suc, ◌+◌, ◌-◌, ◌<◌, ◌≤◌, Bool, true, false, leb, List, [], ◌∷◌, ◌++◌, map, length, decimal, codes}
-use Rattle.std.proofs.Common.{lit≤, refl, sym, ◌∙◌, ap, subst, add-one, length-append, arith}
+use Rattle.uz_cert_laws.proofs.Common.{◌≡◌, ℕ, suc, ◌+◌, ◌-◌, ◌<◌, ◌≤◌, true, leb, List, [], ◌∷◌, ◌++◌, map, length, decimal}
+use Rattle.uz_cert_laws.proofs.Common.{codes, lit≤, refl, sym, ◌∙◌, ap, subst, add-one, length-append, arith, slice_set, rises_from, rises}
+use Rattle.uz_cert_laws.proofs.Common.{Cell, Fact, PairFact, Bit, is_default, is_handler, bytes_forms, pair_forms, tracked_before, Shape}
+use Rattle.uz_cert_laws.proofs.Common.{Facts, register_item, pair_item, flag_item, fact_word, register_items, pair_items, flag_items}
+use Rattle.uz_cert_laws.proofs.Common.{slot_items, cell_items, successor_items, named_items, named_place, successors_place, NamedValues}
+use Rattle.uz_cert_laws.proofs.Common.{named_of, with_named}
 use Rattle.std.proofs.lemmas.List.{map-append}
-use Rattle.uz_schedule.specs.Ends.{Ends, whole_byte}
-use Rattle.uz_schedule.specs.Schedule.{scanline}
-use Rattle.uz_schedule.specs.WellFormed.{RangeFits}
-use Rattle.std.specs.Prelude.{IsTrue, All, slice_set}
+use Rattle.std.specs.Prelude.{IsTrue, All}
 use Rattle.std.proofs.lemmas.List.Elements.{All-push}
 use Rattle.std.proofs.lemmas.Option.{slice_get-get_or}
-use Rattle.uz_schedule.specs.Limits.{is_top, rises_from, rises}
-use Rattle.uz_schedule.specs.declared.header.Cell.{Cell}
-use Rattle.uz_schedule.specs.declared.facts.Fact.{Fact}
-use Rattle.uz_schedule.specs.declared.facts.PairFact.{PairFact}
-use Rattle.uz_schedule.specs.declared.facts.Bit.{Bit}
-use Rattle.uz_cert_lines.specs.Defaults.{is_default, is_default_top, is_default_temp}
-use Rattle.uz_cert_lines.specs.Items.{is_handler, bytes_forms, pair_forms, tracked_before}
-use Rattle.uz_cert_lines.specs.declared.items.Shape.{Shape}
-use Rattle.uz_cert_lines.specs.declared.items.Facts.{Facts}
-use Rattle.uz_cert_writer.specs.Spelling.{register_item, pair_item, flag_item}
-use Rattle.uz_cert_writer.specs.Spelling.{fact_word, range_word, item, unless, register_items, pair_items, flag_items, slot_items, cell_items}
-use Rattle.uz_cert_writer.specs.Spelling.{top_items, temp_items, successor_items}
+use Rattle.uz_cert_laws.specs.LineWords.{least_after}
 use Rattle.uz_cert_laws.specs.Spells.{letters_of_pairs, letters_of_flags, spelled}
-use Rattle.uz_cert_laws.proofs.Tests.{and_true, both_true, else_so, is_le, true_not}
-use Rattle.uz_cert_laws.proofs.Facts.{FactIn, PairIn, BitIn, part_not_whole}
+use Rattle.uz_cert_laws.proofs.Tests.{both_of, and_true, both_true, is_le, true_not}
+use Rattle.uz_cert_laws.proofs.Facts.{FactIn, PairIn, BitIn}
+use Rattle.uz_cert_laws.proofs.Named.{listed_section, listed_is, SetsOne, sets_between, sets_more}
 use Rattle.uz_cert_laws.proofs.Spelled.{registers, numbered_cells, any_pair, usual_flag, in_range}
 use Rattle.uz_cert_laws.proofs.Spelled.{cell_word, usual_fact, usual_pair, usual_bit, usual_cell, registers_are}
 use Rattle.uz_cert_laws.proofs.Spelled.{cells_are, register_default, flag_default, range_default, register_at, cell_number}
 use Rattle.uz_cert_laws.proofs.Spelled.{cells_before_next, cells_before_rise}
-use Rattle.uz_cert_laws.proofs.Taken.{with_register, with_pair, with_flag, with_slot, with_cell, with_top, with_temp, with_successor}
-use Rattle.uz_cert_laws.proofs.Taken.{TakesRegister, TakesPair, TakesTop, TakesTemp, timer_top, timer_temp}
-use Rattle.uz_cert_laws.proofs.Taken.{TakesFlag, TakesSlot, TakesCell, TakesSuccessor, Taken, register, pair, flag, slot, cell, successor}
-use Rattle.uz_cert_laws.proofs.Taken.{cell_form, pair_letter, flag_letter}
+use Rattle.uz_cert_laws.proofs.ItemForms.{with_register, with_pair, with_flag, with_slot, with_cell, with_successor}
+use Rattle.uz_cert_laws.proofs.ItemForms.{RegisterForm, PairForm, listed}
+use Rattle.uz_cert_laws.proofs.ItemForms.{FlagForm, SlotForm, CellForm, SuccessorForm, HasForm, register, pair, flag, slot, cell, successor}
+use Rattle.uz_cert_laws.proofs.ItemForms.{cell_form, pair_letter, flag_letter}
 use Rattle.uz_cert_laws.proofs.Sections.{Section, IsSection, Sections, last, section, Values, FitAll, AreSections, TypeAt, section_at}
 use Rattle.uz_cert_laws.proofs.Sections.{value_at, with_value, after_from, Grown, grown}
 use Rattle.uz_cert_laws.proofs.Options.{OptionList, AreOptions}
-use Rattle.uz_cert_laws.proofs.Sections.{option_section, options_are, option_more, value_section, value_is}
-
--- the number after the last one
-abbrev pub number_after : ℕ → List ℕ → ℕ
-number_after least [] = least
-number_after least (x ∷ xs) = number_after (x + 1) xs
+use Rattle.uz_cert_laws.proofs.Sections.{option_section, options_are, option_more}
 
 -- numbers that rise
 
-pub rises_more : (least : ℕ) (xs : List ℕ) (id : ℕ) → rises_from least xs ≡ true → number_after least xs ≤ id → rises_from least
+pub rises_more : (least : ℕ) (xs : List ℕ) (id : ℕ) → rises_from least xs ≡ true → least_after least xs ≤ id → rises_from least
     (xs ++ id ∷ []) ≡ true
 rises_more least [] id e h = both_true (leb least id) true (is_le least id h) refl
 rises_more least (x ∷ xs) id e h =
     let two = and_true (leb least x) (rises_from (x + 1) xs) e in
     both_true (leb least x) (rises_from (x + 1) (xs ++ id ∷ [])) two.0 (rises_more (x + 1) xs id two.1 h)
 
-pub after_more : (least : ℕ) (xs : List ℕ) (id : ℕ) → id + 1 ≡ number_after least (xs ++ id ∷ [])
+pub after_more : (least : ℕ) (xs : List ℕ) (id : ℕ) → id + 1 ≡ least_after least (xs ++ id ∷ [])
 after_more least [] id = refl
 after_more least (x ∷ xs) id = after_more (x + 1) xs id
 
@@ -112,28 +98,22 @@ module _ (shape : Shape) (cells : List Cell) where
     start = 43;
   }
 
-  abbrev pub top_section : Section ℕ
-  top_section = value_section top_items (λ n. is_top n ≡ true) (scanline - 1) 59
-
-  abbrev pub temp_section : Section Ends
-  temp_section = value_section temp_items (RangeFits 255) whole_byte 60
-
   -- the successors, and the least number that may follow them
   abbrev pub next_section : Section (List ℕ × ℕ)
   next_section = record {
     words = λ p. successor_items p.0;
-    Fits = λ m p. (length p.0 ≤ 16) × All (λ id. id < shape.points) p.0 × IsTrue (rises p.0) × (p.1 ≡ number_after 0 p.0)
-        × (m < 61 → p.0 ≡ []);
-    from = 60;
+    Fits = λ m p. (length p.0 ≤ 16) × All (λ id. id < shape.points) p.0 × IsTrue (rises p.0) × (p.1 ≡ least_after 0 p.0)
+        × (m < successors_place → p.0 ≡ []);
+    from = successors_place - 1;
   }
 
   abbrev pub all_items : Sections
   all_items =
       section (option_section registers_list) (section (option_section pairs_list) (section (option_section flags_list)
-      (section slots_section (section (option_section cells_list) (section top_section (section temp_section (last next_section)))))))
+      (section slots_section (section (option_section cells_list) (section (listed_section shape) (last next_section))))))
 
   abbrev pub values : Facts → Values all_items
-  values f = (f.regs, (f.pairs, (f.flags, (f.stack.items, (f.cells.items, (f.top, (f.temp, (f.next.items, f.after))))))))
+  values f = (f.regs, (f.pairs, (f.flags, (f.stack.items, (f.cells.items, (named_of f, (f.next.items, f.after)))))))
 
   pub registers_options : AreOptions registers_list
   registers_options = record {
@@ -183,33 +163,17 @@ module _ (shape : Shape) (cells : List Cell) where
   }
 
   pub are_sections : AreSections all_items
-  are_sections = (
-    options_are registers_list registers_options,
-    (
-      options_are pairs_list pairs_options,
-      (
-        options_are flags_list flags_options,
-        (
-          slots_are,
-          (
-            options_are cells_list cells_options,
-            (
-              value_is top_items (λ n. is_top n ≡ true) (scanline - 1) 59 refl,
-              (value_is temp_items (RangeFits 255) whole_byte 60 refl, next_is),
-            ),
-          ),
-        ),
-      ),
-    ),
-  )
+  are_sections =
+      both_of (options_are registers_list registers_options) (both_of (options_are pairs_list pairs_options)
+      (both_of (options_are flags_list flags_options)
+      (both_of slots_are (both_of (options_are cells_list cells_options) (both_of (listed_is shape) next_is)))))
 
 -- the facts so far: what is due from the next place on is still as where nothing is said
 pub record Regular (shape : Shape) (cells : List Cell) (f : Facts) : Type 0 where
-  pub few : f.least ≤ 61
+  pub few : f.least ≤ successors_place
   pub fit : FitAll (all_items shape cells) f.least (values shape cells f)
   pub plain_pairs : shape.plain ≡ true → f.pairs ≡ map usual_pair letters_of_pairs
   pub plain_next : shape.plain ≡ true → f.next.items ≡ []
-  pub untimed : shape.timed ≡ false → (f.top ≡ scanline - 1) × (f.temp ≡ whole_byte)
 
 module _ (shape : Shape) (cells : List Cell) (f : Facts) (h : Regular shape cells f) where
   abbrev fit : FitAll (all_items shape cells) f.least (values shape cells f)
@@ -233,7 +197,7 @@ module _ (shape : Shape) (cells : List Cell) (f : Facts) (h : Regular shape cell
   spoken : (old : List (List ℕ)) {v w : List ℕ} {new : List (List ℕ)} → new ≡ old ++ v ∷ [] → w ≡ v → new ≡ old ++ w ∷ []
   spoken old {v} {w} {new} e s = e ∙ ap (λ x. old ++ x ∷ []) (sym s)
 
-  register_grown : (r : ℕ) (x : Fact) (w : List ℕ) → TakesRegister shape f w r x → MoreAll (with_register f r x) w
+  register_grown : (r : ℕ) (x : Fact) (w : List ℕ) → RegisterForm shape f w r x → MoreAll (with_register f r x) w
   register_grown r x w t =
       let there : r < 32 = t.there in
       let order : f.least ≤ r = t.order in
@@ -242,7 +206,7 @@ module _ (shape : Shape) (cells : List Cell) (f : Facts) (h : Regular shape cell
       more_at 0 (r + 1) 32 (slice_set f.regs r x) w refl (omega arith) (omega arith) g.0
       (spoken (register_items shape.kind 0 f.regs) g.1 t.word)
 
-  pair_grown : (k : ℕ) (x : PairFact) (w : List ℕ) (later : List (List ℕ)) → TakesPair shape f w later k x → MoreAll (with_pair f k x) w
+  pair_grown : (k : ℕ) (x : PairFact) (w : List ℕ) (later : List (List ℕ)) → PairForm shape f w later k x → MoreAll (with_pair f k x) w
   pair_grown k x w later t =
       let there : k < 3 = t.there in
       let order : f.least ≤ 32 + k = t.order in
@@ -251,7 +215,7 @@ module _ (shape : Shape) (cells : List Cell) (f : Facts) (h : Regular shape cell
       more_at 1 (33 + k) 35 (slice_set f.pairs k x) w refl (omega arith) (omega arith) g.0
       (spoken (pair_items letters_of_pairs f.pairs) g.1 t.word)
 
-  flag_grown : (b : ℕ) (x : Bit) (w : List ℕ) (later : List (List ℕ)) → TakesFlag shape f w later b x → MoreAll (with_flag f b x) w
+  flag_grown : (b : ℕ) (x : Bit) (w : List ℕ) (later : List (List ℕ)) → FlagForm shape f w later b x → MoreAll (with_flag f b x) w
   flag_grown b x w later t =
       let there : b < 7 = t.there in
       let order : f.least ≤ 35 + b = t.order in
@@ -260,7 +224,7 @@ module _ (shape : Shape) (cells : List Cell) (f : Facts) (h : Regular shape cell
       more_at 2 (36 + b) 41 (slice_set f.flags b x) w refl (omega arith) (omega arith) g.0
       (spoken (flag_items shape.kind letters_of_flags f.flags) g.1 t.word)
 
-  slot_grown : (x : Fact) (w : List ℕ) → TakesSlot shape f w x → MoreAll (with_slot f x) w
+  slot_grown : (x : Fact) (w : List ℕ) → SlotForm shape f w x → MoreAll (with_slot f x) w
   slot_grown x w t =
       let order : f.least ≤ 42 = t.order in
       let room : length f.stack.items < shape.depth = t.room in
@@ -271,7 +235,7 @@ module _ (shape : Shape) (cells : List Cell) (f : Facts) (h : Regular shape cell
       )
       (spoken (slot_items f.stack.items) (map-append (λ y. codes "s:" ++ fact_word y) f.stack.items (x ∷ [])) t.word)
 
-  cell_grown : (i : ℕ) (c : Cell) (x : Fact) (w : List ℕ) → length cells ≤ 16 → TakesCell shape cells f w i c x
+  cell_grown : (i : ℕ) (c : Cell) (x : Fact) (w : List ℕ) → length cells ≤ 16 → CellForm shape cells f w i c x
       → MoreAll (with_cell shape cells f i x) w
   cell_grown i c x w sixteen t =
       let below : i < length cells = t.below in
@@ -291,29 +255,20 @@ module _ (shape : Shape) (cells : List Cell) (f : Facts) (h : Regular shape cell
       none_more : (i : ℕ) → 0 + i ≡ i
       none_more i = omega arith
 
-  -- one word for a value that isn't the default, where nothing was said of it
-  only_word : (t : Bool) (v w : List ℕ) (old : List (List ℕ)) → t ≡ false → w ≡ v → old ≡ [] → unless t v [] ≡ old ++ w ∷ []
-  only_word t v w old n s e = else_so t [] (v ∷ []) n ∙ ap (λ x. x ∷ []) (sym s) ∙ ap (λ ws. ws ++ w ∷ []) (sym e)
+  listed_grown : (v : NamedValues named_items) (next : ℕ) (w : List ℕ) → SetsOne named_items named_place shape f.least (named_of f) w v next
+      → MoreAll (with_named f v next) w
+  listed_grown v next w t =
+      let between = sets_between named_items named_place shape f.least (named_of f) w v next t in
+      let more = sets_more named_items named_place shape f.least (named_of f) w v next t fit.1.1.1.1.1.0.0 fit.1.1.1.1.1.0.1 in
+      let below : f.least < next = between.0 in
+      let high : next ≤ successors_place = between.2 in
+      more_at 5 next (successors_place - 1) v w refl (omega arith) (omega arith) more.0 more.1
 
-  top_grown : (top : ℕ) (w : List ℕ) → TakesTop shape f w top → MoreAll (with_top f top) w
-  top_grown top w t =
-      let order : f.least ≤ 59 = t.order in
-      more_at 5 60 60 top w refl (omega arith) (omega arith) (t.fits, λ l. absurd (omega arith))
-      (only_word (is_default_top top) (item (codes "top") (decimal top)) w (top_items f.top) t.other t.word
-      (ap top_items (fit.1.1.1.1.1.0.1 order)))
-
-  temp_grown : (temp : Ends) (w : List ℕ) → TakesTemp shape f w temp → MoreAll (with_temp f temp) w
-  temp_grown temp w t =
-      let order : f.least ≤ 60 = t.order in
-      more_at 6 61 60 temp w refl order (omega arith) (t.fits.range, λ l. absurd (omega arith))
-      (only_word (is_default_temp temp) (item (codes "temp") (range_word temp)) w (temp_items f.temp) (part_not_whole 255 temp t.fits) t.word
-      (ap temp_items (fit.1.1.1.1.1.1.0.1 order)))
-
-  successor_grown : (id : ℕ) (w : List ℕ) → TakesSuccessor shape f w id → MoreAll (with_successor f id) w
+  successor_grown : (id : ℕ) (w : List ℕ) → SuccessorForm shape f w id → MoreAll (with_successor f id) w
   successor_grown id w t =
       let room : length f.next.items < 16 = t.room in
-      let s = fit.1.1.1.1.1.1.1 in
-      more_at 7 61 61 (f.next.items ++ id ∷ [], id + 1) w refl h.few h.few (
+      let s = fit.1.1.1.1.1.1 in
+      more_at 6 successors_place successors_place (f.next.items ++ id ∷ [], id + 1) w refl h.few h.few (
         omega (arith, length-append f.next.items (id ∷ [])),
         All-push (λ n. n < shape.points) f.next.items id s.1 t.there,
         rises_more 0 f.next.items id s.2 (subst (λ n. n ≤ id) s.3 t.order),
@@ -324,36 +279,31 @@ module _ (shape : Shape) (cells : List Cell) (f : Facts) (h : Regular shape cell
 
   -- whatever item is taken
 
-  abbrev pub OneMore : List ℕ → Facts → Type 0
-  OneMore w more = Regular shape cells more × (spelled shape.kind cells more ≡ spelled shape.kind cells f ++ w ∷ [])
+  abbrev pub IsGrown : List ℕ → Facts → Type 0
+  IsGrown w more = Regular shape cells more × (spelled shape.kind cells more ≡ spelled shape.kind cells f ++ w ∷ [])
 
-  kept : (a more : Facts) (w : List ℕ) → more ≡ a → a.least ≤ 61 → MoreAll a w → (shape.plain ≡ true → a.pairs ≡ map usual_pair letters_of_pairs)
-      → (shape.plain ≡ true → a.next.items ≡ []) → (shape.timed ≡ false → (a.top ≡ scanline - 1) × (a.temp ≡ whole_byte)) → OneMore w more
-  kept a more w e few g pairs next timer =
-      subst (OneMore w) (sym e)
-      (record { few = few; fit = g.fit; plain_pairs = pairs; plain_next = next; untimed = timer }, g.words)
+  kept : (a more : Facts) (w : List ℕ) → more ≡ a → a.least ≤ successors_place → MoreAll a w → (shape.plain ≡ true → a.pairs ≡ map usual_pair letters_of_pairs)
+      → (shape.plain ≡ true → a.next.items ≡ []) → IsGrown w more
+  kept a more w e few g pairs next =
+      subst (IsGrown w) (sym e) (record { few = few; fit = g.fit; plain_pairs = pairs; plain_next = next }, g.words)
 
-  pub one_more : (w : List ℕ) (later : List (List ℕ)) (more : Facts) → length cells ≤ 16 → Taken shape cells f w later more → OneMore w more
+  pub one_more : (w : List ℕ) (later : List (List ℕ)) (more : Facts) → length cells ≤ 16 → HasForm shape cells f w later more → IsGrown w more
   one_more w later more s (register r x t e) =
       let there : r < 32 = t.there in
-      kept (with_register f r x) more w e (omega arith) (register_grown r x w t) h.plain_pairs h.plain_next h.untimed
+      kept (with_register f r x) more w e (omega arith) (register_grown r x w t) h.plain_pairs h.plain_next
   one_more w later more s (pair k x t e) =
       let there : k < 3 = t.there in
       kept (with_pair f k x) more w e (omega arith) (pair_grown k x w later t) (λ p. absurd (true_not shape.plain p t.whole)) h.plain_next
-      h.untimed
   one_more w later more s (flag b x t e) =
       let there : b < 7 = t.there in
-      kept (with_flag f b x) more w e (omega arith) (flag_grown b x w later t) h.plain_pairs h.plain_next h.untimed
+      kept (with_flag f b x) more w e (omega arith) (flag_grown b x w later t) h.plain_pairs h.plain_next
   one_more w later more s (slot x t e) =
-      kept (with_slot f x) more w e (lit≤ tt) (slot_grown x w t) h.plain_pairs h.plain_next h.untimed
+      kept (with_slot f x) more w e (lit≤ tt) (slot_grown x w t) h.plain_pairs h.plain_next
   one_more w later more s (cell i c x t e) =
       let below : i < length cells = t.below in
-      kept (with_cell shape cells f i x) more w e (omega (arith, s)) (cell_grown i c x w s t) h.plain_pairs h.plain_next h.untimed
-  one_more w later more s (timer_top top t e) =
-      kept (with_top f top) more w e (lit≤ tt) (top_grown top w t) h.plain_pairs h.plain_next (λ u. absurd (true_not shape.timed t.timed u))
-  one_more w later more s (timer_temp temp t e) =
-      kept (with_temp f temp) more w e (lit≤ tt) (temp_grown temp w t) h.plain_pairs h.plain_next
-      (λ u. absurd (true_not shape.timed t.timed u))
+      kept (with_cell shape cells f i x) more w e (omega (arith, s)) (cell_grown i c x w s t) h.plain_pairs h.plain_next
+  one_more w later more s (listed v next t e) =
+      let between = sets_between named_items named_place shape f.least (named_of f) w v next t in
+      kept (with_named f v next) more w e between.2 (listed_grown v next w t) h.plain_pairs h.plain_next
   one_more w later more s (successor id t e) =
       kept (with_successor f id) more w e (lit≤ tt) (successor_grown id w t) h.plain_pairs (λ p. absurd (true_not shape.plain p t.whole))
-      h.untimed

@@ -1,50 +1,35 @@
 -- All items of a line: what is spelled of facts is read as these facts.
-use Rattle.std.proofs.Common.{◌≡◌, ◌≢◌, ℕ, zero, suc, ◌+◌, ◌-◌, ◌<◌, ◌≤◌, Bool, true, false, cond, not, ◌&&◌, ◌||◌, eqb, leb, ltb, List, []}
-use Rattle.std.proofs.Common.{◌∷◌, ◌++◌, map, length, take, get_or, decimal, codes, bytes_eq, lit<, lit≤, refl, sym, ◌∙◌, ap, subst}
-use Rattle.std.proofs.Common.{append_assoc, append-nil, add-one, length-append, arith}
-use Rattle.std.specs.Prelude.{Some, Ok, Err, All, slice_get, slice_set}
-use Rattle.std.proofs.lemmas.List.Elements.{All-head, All-tail}
-use Rattle.std.proofs.lemmas.Fmt.{decimal_digit}
-use Rattle.uz_schedule.specs.Limits.{is_top, rises_from, rises}
-use Rattle.uz_schedule.specs.Ends.{Ends, whole_byte}
-use Rattle.uz_schedule.specs.Schedule.{scanline}
-use Rattle.uz_schedule.specs.Tracked.{tracks}
-use Rattle.uz_schedule.specs.WellFormed.{RangeFits, is_zero_or_one, is_default_flag}
-use Rattle.uz_schedule.specs.declared.kinds.Kind.{Kind}
-use Rattle.uz_schedule.specs.declared.header.Cell.{Cell}
-use Rattle.uz_schedule.specs.declared.facts.Fact.{Fact}
-use Rattle.uz_schedule.specs.declared.facts.PairFact.{PairFact}
+use Rattle.uz_cert_laws.proofs.Common.{◌≡◌, ℕ, zero, suc, ◌+◌, ◌-◌, ◌<◌, ◌≤◌, Bool, true, false, cond, not, ◌&&◌, ◌||◌, eqb, leb, ltb}
+use Rattle.uz_cert_laws.proofs.Common.{List, [], ◌∷◌, ◌++◌, map, length, take, get_or, decimal, codes, bytes_eq, lit<, lit≤, refl, sym, ◌∙◌}
+use Rattle.uz_cert_laws.proofs.Common.{ap, subst, append_assoc, append-nil, add-one, length-append, arith, Some, Ok, Err, slice_get}
+use Rattle.uz_cert_laws.proofs.Common.{slice_set, All-head, All-tail, decimal_digit, rises_from, rises, tracks, is_zero_or_one}
+use Rattle.uz_cert_laws.proofs.Common.{is_default_flag, Kind, Cell, Fact, PairFact, Bit, Zero, One, Free, raw_of, range, one_number}
+use Rattle.uz_cert_laws.proofs.Common.{is_default, is_any_pair, first_facts, is_handler, bytes_forms, pair_forms, tracked_count}
+use Rattle.uz_cert_laws.proofs.Common.{names_c_or_z, any_names, tracked_before, is_flag_z, take_item, items_from, read_items, Raw, Shape}
+use Rattle.uz_cert_laws.proofs.Common.{Facts, numbers_from, register_item, pair_item, flag_item, options, unless, fact_word, pair_word}
+use Rattle.uz_cert_laws.proofs.Common.{flag_word, pair_items, flag_items, slot_items, cell_items, listed_items, successor_items}
+use Rattle.uz_cert_laws.proofs.Common.{named_items, named_place, successors_place, NamedValues, named_of, with_named}
+use Rattle.std.specs.Prelude.{All}
 use Rattle.uz_schedule.specs.declared.facts.PairFact.TheVariants.{Any as AnyPair, Between as BetweenPair, Line as LinePair}
 use Rattle.uz_schedule.specs.declared.facts.PairFact.TheVariants.{Loop as LoopPair}
-use Rattle.uz_schedule.specs.declared.facts.Bit.{Bit}
-use Rattle.uz_schedule.specs.declared.facts.Bit.TheVariants.{Zero, One, Free, Old as OldBit}
-use Rattle.uz_cert_lines.specs.Values.{raw_of, range, one_number}
-use Rattle.uz_cert_lines.specs.Defaults.{is_default, is_any_pair, is_default_top, is_default_temp}
-use Rattle.uz_cert_lines.specs.Items.{first_facts, is_handler, bytes_forms, pair_forms, tracked_count}
-use Rattle.uz_cert_lines.specs.FlagNames.{names_c_or_z, any_names}
-use Rattle.uz_cert_lines.specs.Items.{tracked_before, is_flag_z, take_item, items_from, read_items}
-use Rattle.uz_cert_lines.specs.declared.values.Raw.{Raw}
+use Rattle.uz_schedule.specs.declared.facts.Bit.TheVariants.{Old as OldBit}
 use Rattle.uz_cert_lines.specs.declared.values.Raw.TheVariants as raw
-use Rattle.uz_cert_lines.specs.declared.items.Shape.{Shape}
-use Rattle.uz_cert_lines.specs.declared.items.Facts.{Facts}
 use Rattle.uz_cert_lines.specs.declared.why.CertWhy.TheVariants as why
-use Rattle.uz_cert_writer.specs.Spelling.{numbers_from, register_item, pair_item, flag_item}
-use Rattle.uz_cert_writer.specs.Spelling.{options, item, unless, range_word, fact_word, pair_word, flag_word, pair_items, flag_items, slot_items}
-use Rattle.uz_cert_writer.specs.Spelling.{cell_items, top_items, temp_items, successor_items}
+use Rattle.uz_cert_laws.proofs.Named.{Say, usuals, listed_other, listed_read}
 use Rattle.uz_cert_laws.proofs.Tests.{and_true, or_false, fine, fault_not, true_not, refuted, neither, then, le_is, number_is, word_is, is_lt}
 use Rattle.uz_cert_laws.proofs.Tests.{is_not_lt}
-use Rattle.uz_cert_laws.proofs.Facts.{FactIn, PairIn, BitIn, raw_by, pair_raw, pair_so, whole_ends, part_from}
+use Rattle.uz_cert_laws.proofs.Facts.{FactIn, PairIn, BitIn, raw_by, pair_raw, pair_so}
 use Rattle.uz_cert_laws.proofs.Raws.{one_raw}
 use Rattle.uz_cert_laws.proofs.Options.{Each, Ordered, options_read}
 use Rattle.uz_cert_laws.proofs.Spelled.{pair_usual_only, registers, numbered_cells, in_range}
 use Rattle.uz_cert_laws.proofs.Spelled.{cell_word, usual_fact, usual_pair, usual_bit, usual_cell, cells_are, registers_usual, cells_usual}
 use Rattle.uz_cert_laws.proofs.Spelled.{register_only, flag_usual_only, range_only_usual}
-use Rattle.uz_cert_laws.proofs.Taken.{with_register, with_pair, with_flag, with_cell, cell_form, pair_letter, flag_letter}
-use Rattle.uz_cert_laws.proofs.Takes.{register_takes, pair_takes, flag_takes, slot_takes, cell_takes, top_takes, temp_takes, successor_takes}
-use Rattle.uz_cert_laws.specs.Spells.{letters_of_pairs, letters_of_flags, timer_and_next, spelled}
-use Rattle.uz_cert_laws.proofs.OneMore.{registers_list, pairs_list, flags_list, cells_list, registers_options, pairs_options, flags_options}
-use Rattle.uz_cert_laws.proofs.OneMore.{cells_options}
-use Rattle.uz_cert_laws.proofs.OnlyItems.{ShapeFits, IsMeant, names_letter, flag_other_name}
+use Rattle.uz_cert_laws.proofs.ItemForms.{with_register, with_pair, with_flag, with_cell, cell_form, pair_letter, flag_letter}
+use Rattle.uz_cert_laws.proofs.FormsAreRead.{register_takes, pair_takes, flag_takes, slot_takes, cell_takes, name_takes, successor_takes}
+use Rattle.uz_cert_laws.specs.Spells.{letters_of_pairs, letters_of_flags, listed_and_next, spelled}
+use Rattle.uz_cert_laws.proofs.GrowingFacts.{registers_list, pairs_list, flags_list, cells_list, registers_options, pairs_options, flags_options}
+use Rattle.uz_cert_laws.proofs.GrowingFacts.{cells_options}
+use Rattle.uz_cert_laws.proofs.ReadItems.{ShapeFits, IsMeant, names_letter, flag_other_name}
 
 -- a value in the middle of a list
 set_middle : {A : Type 0} (front back : List A) (n : ℕ) (x y : A) → n ≡ length front → slice_set (front ++ x ∷ back) n y ≡ front ++ y ∷ back
@@ -101,20 +86,16 @@ names_cells (k ∷ ks) (f ∷ fs) =
 
 -- the words after the flags
 abbrev after_flags : Kind → List Cell → Facts → List (List ℕ)
-after_flags kind cells f = slot_items f.stack.items ++ (cell_items kind 0 cells f.cells.items ++ timer_and_next f)
+after_flags kind cells f = slot_items f.stack.items ++ (cell_items kind 0 cells f.cells.items ++ listed_and_next f)
 
 no_names_after : (kind : Kind) (cells : List Cell) (f : Facts) → any_names (after_flags kind cells f) ≡ false
 no_names_after kind cells f =
-    names_append (slot_items f.stack.items) (cell_items kind 0 cells f.cells.items ++ timer_and_next f)
+    names_append (slot_items f.stack.items) (cell_items kind 0 cells f.cells.items ++ listed_and_next f)
     (names_map (λ x. codes "s:" ++ fact_word x) f.stack.items (λ x. names_letter 115 (58 ∷ fact_word x) refl))
-    (names_append (cell_items kind 0 cells f.cells.items) (timer_and_next f)
+    (names_append (cell_items kind 0 cells f.cells.items) (listed_and_next f)
     (ap any_names (cells_are kind 0 cells f.cells.items) ∙ names_cells (numbered_cells kind 0 cells) f.cells.items)
-    (names_append (top_items f.top) (temp_items f.temp ++ successor_items f.next.items)
-    (names_unless (is_default_top f.top) (item (codes "top") (decimal f.top)) [] (names_letter 116 (111 ∷ 112 ∷ 61 ∷ decimal f.top) refl) refl)
-    (names_append (temp_items f.temp) (successor_items f.next.items)
-    (names_unless (is_default_temp f.temp) (item (codes "temp") (range_word f.temp)) []
-    (names_letter 116 (101 ∷ 109 ∷ 112 ∷ 61 ∷ range_word f.temp) refl) refl)
-    (names_map (λ id. 62 ∷ decimal id) f.next.items (λ id. names_letter 62 (decimal id) refl)))))
+    (names_append (listed_items named_items (named_of f)) (successor_items f.next.items) (listed_other named_items (named_of f) refl)
+    (names_map (λ id. 62 ∷ decimal id) f.next.items (λ id. names_letter 62 (decimal id) refl))))
 
 -- where C or Z is said, a word for it comes
 names_said : (kind : Kind) (R : Bit → Type 0) (bs : List Bit) (later : List (List ℕ)) → Each (λ l x. R x) letters_of_flags bs
@@ -211,9 +192,7 @@ pub record FactsFit (shape : Shape) (cells : List Cell) (f : Facts) : Type 0 whe
   pub slots_fit : length f.stack.items ≤ shape.depth
   pub stack_fit : All (FactIn (bytes_forms shape)) f.stack.items
   pub cells_fit : Each (λ p x. FactIn (cell_form shape p.1) x) (numbered_cells shape.kind 0 cells) f.cells.items
-  pub top_fit : is_top f.top ≡ true
-  pub temp_fit : RangeFits 255 f.temp
-  pub timed_fit : shape.timed ≡ false → (f.top ≡ scanline - 1) × (f.temp ≡ whole_byte)
+  pub listed_fit : Say named_items shape (named_of f)
   pub next_fit : (rises f.next.items ≡ true) × All (λ id. id < shape.points) f.next.items × (length f.next.items ≤ 16)
       × (shape.plain ≡ true → f.next.items ≡ [])
   pub plain_fit : shape.plain ≡ true → f.pairs ≡ AnyPair ∷ AnyPair ∷ AnyPair ∷ []
@@ -249,7 +228,7 @@ module _ (shape : Shape) (cells : List Cell) (h : ShapeFits shape cells) (g : Fa
       let two = and_true (leb after id) (rises_from (id + 1) ids) r in
       let count : length front + length (id ∷ ids) ≡ length g.next.items = sym (length-append front (id ∷ ids)) ∙ ap length e in
       let few : length g.next.items ≤ 16 = s.next_fit.2 in
-      done (next_facts least after front) (next_facts 61 (id + 1) (front ++ id ∷ [])) (62 ∷ decimal id) (successor_items ids)
+      done (next_facts least after front) (next_facts successors_place (id + 1) (front ++ id ∷ [])) (62 ∷ decimal id) (successor_items ids)
       (successor_takes shape cells (next_facts least after front) (successor_items ids) id h.places
       (record {
         word = refl;
@@ -258,68 +237,28 @@ module _ (shape : Shape) (cells : List Cell) (h : ShapeFits shape cells) (g : Fa
         room = omega (arith, count, few);
         order = le_is after id two.0;
       }))
-      (next_stage (front ++ id ∷ []) ids 61 (id + 1) (append_assoc front (id ∷ []) ids ∙ e) two.1
+      (next_stage (front ++ id ∷ []) ids successors_place (id + 1) (append_assoc front (id ∷ []) ids ∙ e) two.1
       (All-tail (λ id. id < shape.points) id ids t))
     where
       some : (m n k : ℕ) → m + suc n ≡ k → k ≡ 0 → ⊥
       some m n k e z = omega arith
 
-  -- the timer
+  -- items of one value
 
-  abbrev temp_facts : ℕ → Ends → Facts
-  temp_facts least temp = record (next_facts least 0 []) { temp = temp }
+  abbrev listed_facts : NamedValues named_items → ℕ → Facts
+  listed_facts v least = with_named (next_facts least 0 []) v least
 
-  abbrev top_facts : ℕ → ℕ → Facts
-  top_facts least top = record (temp_facts least whole_byte) { top = top }
-
-  unless_done : (f : Facts) (t : Bool) (w : List ℕ) (words : List (List ℕ)) → (t ≡ true → Done f words) → (t ≡ false → Done f (w ∷ words))
-      → Done f (unless t w [] ++ words)
-  unless_done f true w words a b = a refl
-  unless_done f false w words a b = b refl
-
-  told : (t u : Bool) → t ≡ false → (u ≡ false → t ≡ true) → u ≡ true
-  told t true o k = refl
-  told t false o k = absurd (true_not t (k refl) o)
-
-  temp_stage : (least : ℕ) → least ≤ 60 → Done (temp_facts least whole_byte) (temp_items g.temp ++ successor_items g.next.items)
-  temp_stage least l =
-      let word = item (codes "temp") (range_word g.temp) in
-      let words = successor_items g.next.items in
-      unless_done (temp_facts least whole_byte) (is_default_temp g.temp) word words
-      (λ t. at_facts (temp_facts least whole_byte) (temp_facts least g.temp) words (ap (temp_facts least) (whole_ends g.temp t))
-      (next_stage [] g.next.items least 0 refl s.next_fit.0 s.next_fit.1))
-      (λ t. done (temp_facts least whole_byte) (temp_facts 61 g.temp) word words
-      (temp_takes shape cells (temp_facts least whole_byte) words g.temp
-      (record {
-        word = refl;
-        timed = told (is_default_temp g.temp) shape.timed t (λ u. ap is_default_temp (s.timed_fit u).1);
-        fits = part_from g.temp s.temp_fit t;
-        order = l;
-      }))
-      (next_stage [] g.next.items 61 0 refl s.next_fit.0 s.next_fit.1))
-
-  top_stage : (least : ℕ) → least ≤ 59 → Done (top_facts least (scanline - 1)) (timer_and_next g)
-  top_stage least l =
-      let word = item (codes "top") (decimal g.top) in
-      let words = temp_items g.temp ++ successor_items g.next.items in
-      unless_done (top_facts least (scanline - 1)) (is_default_top g.top) word words
-      (λ t. at_facts (top_facts least (scanline - 1)) (top_facts least g.top) words
-      (ap (top_facts least) (sym (number_is g.top (scanline - 1) t))) (temp_stage least (omega arith)))
-      (λ t. done (top_facts least (scanline - 1)) (top_facts 60 g.top) word words
-      (top_takes shape cells (top_facts least (scanline - 1)) words g.top
-      (record {
-        word = refl;
-        timed = told (is_default_top g.top) shape.timed t (λ u. ap is_default_top (s.timed_fit u).0);
-        fits = s.top_fit;
-        order = l;
-        other = t;
-      }))
-      (temp_stage 60 (lit≤ tt)))
+  listed_stage : (least : ℕ) → least ≤ named_place → Done (listed_facts (usuals named_items) least) (listed_and_next g)
+  listed_stage least l =
+      listed_read shape Done (take_item shape cells) done named_items named_place least listed_facts (named_of g)
+      (successor_items g.next.items) refl
+      (λ old n key value ws a name. (refl, name_takes shape cells (listed_facts old n) key value ws name)) s.listed_fit l
+      (λ low m. next_stage [] g.next.items low 0 refl s.next_fit.0 s.next_fit.1)
 
   -- cells
 
   abbrev cells_facts : ℕ → List Fact → Facts
-  cells_facts least cs = record (top_facts least (scanline - 1)) { cells = record { items = cs } }
+  cells_facts least cs = record (listed_facts (usuals named_items) least) { cells = record { items = cs } }
 
   abbrev CellAt : ℕ × Cell → ℕ → Type 0
   CellAt p n = (slice_get cells p.0 ≡ Some p.1) × (p.0 < length cells) × (tracks shape.kind p.1.owner ≡ true)
@@ -388,13 +327,13 @@ module _ (shape : Shape) (cells : List Cell) (h : ShapeFits shape cells) (g : Fa
   usual_cells = map usual_cell (numbered_cells shape.kind 0 cells)
 
   abbrev cell_words_and_on : List (List ℕ)
-  cell_words_and_on = cell_items shape.kind 0 cells g.cells.items ++ timer_and_next g
+  cell_words_and_on = cell_items shape.kind 0 cells g.cells.items ++ listed_and_next g
 
   cells_stage : (least : ℕ) → least ≤ 43 → Done (cells_facts least usual_cells) cell_words_and_on
   cells_stage least l =
       options_read (cells_list shape cells) cell_place CellAt (λ p x. FactIn (cell_form shape p.1) x)
       (λ low values words. Done (cells_facts low values) words) (λ p x i e. range_only_usual shape p.1 x i e) cell_step
-      (cells_options shape cells) g.cells.items least 59 (timer_and_next g) s.cells_fit (cells_ordered [] cells 0 least refl refl l) top_stage
+      (cells_options shape cells) g.cells.items least 59 (listed_and_next g) s.cells_fit (cells_ordered [] cells 0 least refl refl l) listed_stage
 
   -- slots
 

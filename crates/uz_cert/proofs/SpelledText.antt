@@ -5,7 +5,6 @@ use Rattle.std.proofs.Common.{All, codes, decimal, leb, ltb, zero-add, refl, sym
 use Rattle.std.proofs.Common.{subst, append_assoc, append-nil, arith, length-append}
 use Rattle.std.specs.Prelude.{Some, None, Result, Ok, ⊤, sum_by}
 use Rattle.std.proofs.lemmas.Bool.{leb-true}
-use Rattle.std.proofs.lemmas.Bool.Decides.{nat_tests}
 use Rattle.std.proofs.lemmas.List.{length-replicate}
 use Rattle.std.proofs.lemmas.List.Elements.{All-head, All-tail, All-weaker}
 use Rattle.std.proofs.lemmas.List.Sums.{sum_by-cons}
@@ -26,23 +25,24 @@ use Rattle.uz_cert_lines.specs.Why.{◌>>=◌}
 use Rattle.uz_cert_lines.specs.Forms.{reads}
 use Rattle.uz_cert_lines.specs.Lines.{IsLengthIn, IsPointIn}
 use Rattle.uz_cert_lines.specs.declared.lines.KindLine.{KindLine}
-use Rattle.uz_cert_lines.specs.declared.lines.Said.{Said}
+use Rattle.uz_cert_lines.specs.declared.lines.ParsedLine.{ParsedLine}
 use Rattle.uz_cert_lines.specs.declared.version.Version.{Version}
-use Rattle.uz_cert_lines.specs.declared.lines.Said.TheVariants as said
-use Rattle.uz_cert.specs.Drafts.{due_of, form_of, draft_after}
+use Rattle.uz_cert_lines.specs.declared.lines.ParsedLine.TheVariants as parsed
+use Rattle.uz_cert.specs.Drafts.{expected_line, form_of, draft_after}
 use Rattle.uz_cert.specs.Kept.{Kept, SaidFits}
-use Rattle.uz_cert.specs.SaidLines.{due_as, said_words}
-use Rattle.uz_cert_laws.specs.Said.{line}
+use Rattle.uz_cert.specs.SaidLines.{expected_as, said_words}
+use Rattle.uz_cert_laws.specs.LineWords.{line}
 use Rattle.uz_cert.proofs.Lines.{LineSpelling, line_cut}
 use Rattle.uz_cert.specs.Reading.{Fault, is_more, words_in, line_says, or_fault, cert_from, cert_with, cert_before, read_by, read_from}
-use Rattle.uz_cert.specs.declared.due.Due.{Due}
+use Rattle.uz_cert.specs.declared.expected_line.ExpectedLine.{ExpectedLine}
 use Rattle.uz_cert.specs.declared.draft.Draft.{Draft}
 use Rattle.uz_cert_laws.proofs.Tests.{and_true}
 use Rattle.uz_cert.proofs.KeptLaws.{next_of, kept_next, same_cell}
 use Rattle.uz_cert.proofs.LineOrder.{PastCells, PastKinds, PastFall, PastRuns, PastRests, PastEntry, PastPoints}
 use Rattle.uz_cert.proofs.LineOrder.{due_cell, due_event, due_kind, due_fall, due_run, due_rest, due_entry, due_point, due_end, due_none}
+use Rattle.uz_cert.proofs.LineOrder.{equal, not_equal}
 
-abbrev pub spelled : Version → Head → Said → List ℕ
+abbrev pub spelled : Version → Head → ParsedLine → List ℕ
 spelled v h s = line_of (said_words v h s)
 
 abbrev pub told : Cert → Result Cert Fault
@@ -50,19 +50,19 @@ told c = Ok c
 
 -- one line more
 
-says : (d : Draft) (due : Due) (line : List ℕ) (s : Said) → reads (form_of d due) (words_in line true) ≡ Ok s → line_says d due line
+says : (d : Draft) (expected : ExpectedLine) (line : List ℕ) (s : ParsedLine) → reads (form_of d expected) (words_in line true) ≡ Ok s → line_says d expected line
     true ≡ Ok (next_of d s)
 unfolding line_says draft_after
-says d due line s e = ap (λ m. m >>= (λ x. Ok (draft_after d x))) e
+says d expected line s e = ap (λ m. m >>= (λ x. Ok (draft_after d x))) e
 
-pub step : (l : LineSpelling) (d : Draft) (s : Said) (rest : List (List ℕ)) → Kept d → due_of d ≡ Some (due_as s) → SaidFits d s
+pub step : (l : LineSpelling) (d : Draft) (s : ParsedLine) (rest : List (List ℕ)) → Kept d → expected_line d ≡ Some (expected_as s) → SaidFits d s
     → is_more rest ≡ true → read_from d (spelled d.version d.head s ∷ rest) ≡ read_from (next_of d s) rest
 step l d s rest k is fits more =
     ap (λ o. read_by o d (spelled d.version d.head s) rest (λ x. read_from x rest)) is
     ∙ ap (λ r. or_fault (d.read + 1) r (λ x. read_from x rest))
-    (ap (line_says d (due_as s) (spelled d.version d.head s)) more
-    ∙ says d (due_as s) (spelled d.version d.head s) s
-    (ap (reads (form_of d (due_as s))) (line_cut l d s k is fits) ∙ l.again d s k is fits))
+    (ap (line_says d (expected_as s) (spelled d.version d.head s)) more
+    ∙ says d (expected_as s) (spelled d.version d.head s) s
+    (ap (reads (form_of d (expected_as s))) (line_cut l d s k is fits) ∙ l.again d s k is fits))
 
 more_after : (lines : List (List ℕ)) (piece : List ℕ) (rest : List (List ℕ)) → is_more (lines ++ piece ∷ rest) ≡ true
 more_after [] piece rest = refl
@@ -70,15 +70,15 @@ more_after (line ∷ lines) piece rest = refl
 
 -- the end
 
-whole_again : (d : Draft) (e : Entry) → due_of d ≡ None → d.entry ≡ Some e → read_from d ([] ∷ []) ≡ told (cert_from d e)
+whole_again : (d : Draft) (e : Entry) → expected_line d ≡ None → d.entry ≡ Some e → read_from d ([] ∷ []) ≡ told (cert_from d e)
 unfolding cert_before
-whole_again d e due is = ap (λ o. read_by o d [] [] (λ more. read_from more [])) due ∙ ap (cert_with d) is
+whole_again d e expected is = ap (λ o. read_by o d [] [] (λ more. read_from more [])) expected ∙ ap (cert_with d) is
 
 pub end_again : (l : LineSpelling) (d : Draft) (e : Entry) → Kept d → 4 ≤ d.read → PastPoints d e → d.ended ≡ false
     → read_from d last_lines ≡ told (cert_from d e)
 end_again l d e k b p open_end =
-    let next = next_of d said.End in
-    step l d said.End ([] ∷ []) k (due_end d e b p open_end) b refl
+    let next = next_of d parsed.End in
+    step l d parsed.End ([] ∷ []) k (due_end d e b p open_end) b refl
     ∙ whole_again next e (due_none next e (omega (arith, b)) p refl) p.0.1
 
 -- points
@@ -100,7 +100,7 @@ points_again l d e (x ∷ xs) k b p o count fits own sum =
     let cells : d.sizes.cells ≡ length d.head.cells.items = p.0.0.0.0.0 in
     let room : length d.points < d.sizes.points = omega (arith, count) in
     let split = sum_by-cons instances_of x xs in
-    let fit : SaidFits d (said.Point x) = record {
+    let fit : SaidFits d (parsed.Point x) = record {
       after = record { body = b; cells = omega (arith, cells) };
       room = room;
       fits = All-head (PointFits d.head d.sizes.lines d.sizes.points) x xs fits;
@@ -108,8 +108,8 @@ points_again l d e (x ∷ xs) k b p o count fits own sum =
       instances = omega (arith, sum, split);
     } in
     let is = due_point d e b p room in
-    step l d (said.Point x) (point_lines d.head.cells.items xs) k is fit (points_more d.head.cells.items xs)
-    ∙ (points_again l (next_of d (said.Point x)) e xs (kept_next d (said.Point x) k is fit) (omega (arith, b)) p o (simp length-append (omega (arith, count)))
+    step l d (parsed.Point x) (point_lines d.head.cells.items xs) k is fit (points_more d.head.cells.items xs)
+    ∙ (points_again l (next_of d (parsed.Point x)) e xs (kept_next d (parsed.Point x) k is fit) (omega (arith, b)) p o (simp length-append (omega (arith, count)))
     (All-tail (PointFits d.head d.sizes.lines d.sizes.points) x xs fits) (All-tail (IsPointIn d.version) x xs own) (less_sum (instances_of x) (sum_by instances_of xs)
     (sum_by instances_of (x ∷ xs)) d.left split sum)
     ∙ ap (λ ps. told (cert_from (record d { points = ps }) e)) (append_assoc d.points (x ∷ []) xs))
@@ -129,10 +129,10 @@ pub entry_again : (l : LineSpelling) (d : Draft) (e : Entry) (ps : List Point) �
     → read_from d (entry_lines d.head.cells.items e ps) ≡ told (cert_from (record d { points = ps }) e)
 entry_again l d e ps k b p none no_points o count entry fits own sum =
     let cells : d.sizes.cells ≡ length d.head.cells.items = p.0.0.0.0 in
-    let fit : SaidFits d (said.Entry e) = record { after = record { body = b; cells = omega (arith, cells) }; fits = entry } in
+    let fit : SaidFits d (parsed.Entry e) = record { after = record { body = b; cells = omega (arith, cells) }; fits = entry } in
     let is = due_entry d b p none in
-    step l d (said.Entry e) (point_lines d.head.cells.items ps) k is fit (points_more d.head.cells.items ps)
-    ∙ (points_again l (next_of d (said.Entry e)) e ps (kept_next d (said.Entry e) k is fit) (omega (arith, b)) (p, refl) o (ap (λ xs. length xs + length ps) no_points
+    step l d (parsed.Entry e) (point_lines d.head.cells.items ps) k is fit (points_more d.head.cells.items ps)
+    ∙ (points_again l (next_of d (parsed.Entry e)) e ps (kept_next d (parsed.Entry e) k is fit) (omega (arith, b)) (p, refl) o (ap (λ xs. length xs + length ps) no_points
     ∙ (zero-add (length ps) ∙ count)) fits own sum
     ∙ ap (λ xs. told (cert_from (record d { points = xs ++ ps }) e)) no_points)
 
@@ -161,16 +161,16 @@ rests_again l d (r ∷ rs) e ps k b p s =
     let cells : d.sizes.cells ≡ length d.head.cells.items = p.0.0.0 in
     let room : length d.rests < d.sizes.rests = omega (arith, count) in
     let order = and_true (leb d.rest_least r.line) (rises_from (r.line + 1) (map (λ x. x.line) rs)) s.5 in
-    let fit : SaidFits d (said.Rest r) = record {
+    let fit : SaidFits d (parsed.Rest r) = record {
       after = record { body = b; cells = omega (arith, cells) };
       room = room;
       fits = All-head (RestFits d.head d.sizes.lines d.sizes.points) r rs s.4;
       order = leb-true d.rest_least r.line order.0;
     } in
     let is = due_rest d b p room in
-    step l d (said.Rest r) (rest_lines d.head.cells.items rs e ps) k is fit
+    step l d (parsed.Rest r) (rest_lines d.head.cells.items rs e ps) k is fit
     (more_after (map (λ x. line_of (rest_words x)) rs) (line_of (entry_words d.head.cells.items e)) (point_lines d.head.cells.items ps))
-    ∙ (rests_again l (next_of d (said.Rest r)) rs e ps (kept_next d (said.Rest r) k is fit) (omega (arith, b)) p (
+    ∙ (rests_again l (next_of d (parsed.Rest r)) rs e ps (kept_next d (parsed.Rest r) k is fit) (omega (arith, b)) p (
       s.0,
       s.1,
       s.2,
@@ -221,14 +221,14 @@ runs_again l d (r ∷ runs) rs e ps k b p apart kinds count s =
     let same = length-replicate r.0 r.1 in
     let some = apart.0 in
     let room : length d.lines < d.sizes.lines = omega (arith, count, size, same, some) in
-    let fit : SaidFits d (said.Run (record { count = r.0; kind = r.1 })) = record {
+    let fit : SaidFits d (parsed.Run (record { count = r.0; kind = r.1 })) = record {
       body = b;
       some = apart.0;
       few = omega (arith, count, size, same);
       there = All-head (λ x. x.1 < d.sizes.kinds) r runs kinds;
       other = apart.1;
     } in
-    let says = said.Run (record { count = r.0; kind = r.1 }) in
+    let says = parsed.Run (record { count = r.0; kind = r.1 }) in
     let is = due_run d b p room in
     step l d says (run_lines runs d.head.cells.items rs e ps) k is fit
     (more_lines (map (λ x. line_of (run_words x)) runs) (rest_lines d.head.cells.items rs e ps) (some_rest d.head.cells.items rs e ps))
@@ -249,11 +249,11 @@ pub fall_again : (l : LineSpelling) (d : Draft) (clock : ℕ) (runs : List (ℕ 
     → read_from d (fall_lines clock runs d.head.cells.items rs e ps)
     ≡ told (cert_from (record d { fall = clock; lines = expand runs; rests = d.rests ++ rs; points = ps }) e)
 fall_again l d clock runs rs e ps k b p none some low no_lines apart kinds count s =
-    let fit : SaidFits d (said.Fall clock) = (b, some, low) in
+    let fit : SaidFits d (parsed.Fall clock) = (b, some, low) in
     let is = due_fall d b p none in
-    step l d (said.Fall clock) (run_lines runs d.head.cells.items rs e ps) k is fit
+    step l d (parsed.Fall clock) (run_lines runs d.head.cells.items rs e ps) k is fit
     (more_lines (map (λ x. line_of (run_words x)) runs) (rest_lines d.head.cells.items rs e ps) (some_rest d.head.cells.items rs e ps))
-    ∙ (runs_again l (next_of d (said.Fall clock)) runs rs e ps (kept_next d (said.Fall clock) k is fit) (omega (arith, b)) (p, some) apart kinds
+    ∙ (runs_again l (next_of d (parsed.Fall clock)) runs rs e ps (kept_next d (parsed.Fall clock) k is fit) (omega (arith, b)) (p, some) apart kinds
     (ap (λ ls. length ls + length (expand runs)) no_lines ∙ (zero-add (length (expand runs)) ∙ count)) s
     ∙ ap (λ ls. told (cert_from (record d { fall = clock; lines = ls ++ expand runs; rests = d.rests ++ rs; points = ps }) e)) no_lines)
 
@@ -287,10 +287,10 @@ with_kinds d read kinds lengths = record d {
   event_least = 0;
 }
 
-pub event_next : (d : Draft) (e : Event) → eqb (d.owed - 1) 0 ≡ false → next_of d (said.Event e) ≡ with_event d e
+pub event_next : (d : Draft) (e : Event) → eqb (d.owed - 1) 0 ≡ false → next_of d (parsed.Event e) ≡ with_event d e
 event_next d e h = rw h refl
 
-pub last_next : (d : Draft) (e : Event) → eqb (d.owed - 1) 0 ≡ true → next_of d (said.Event e) ≡ with_last d e
+pub last_next : (d : Draft) (e : Event) → eqb (d.owed - 1) 0 ≡ true → next_of d (parsed.Event e) ≡ with_last d e
 last_next d e h = rw h refl
 
 -- where these kinds were read
@@ -310,12 +310,6 @@ record EventsRead (d : Draft) (es : List Event) (lines others : List (List ℕ))
 abbrev event_lines : List Event → List (List ℕ)
 event_lines es = map (λ e. line_of (event_words e)) es
 
-zero_test : (n : ℕ) → n ≡ 0 → eqb n 0 ≡ true
-zero_test n h = grind (arith, nat_tests)
-
-some_test : (n : ℕ) → 1 ≤ n → eqb n 0 ≡ false
-some_test n h = grind (arith, nat_tests)
-
 events_again : (l : LineSpelling) (d : Draft) (e : Event) (es : List Event) (others : List (List ℕ)) → Kept d → 4 ≤ d.read → PastCells d
     → d.owed ≡ length es + 1 → All EventFits (e ∷ es) → rises_from d.event_least (map (λ x. x.clock) (e ∷ es)) ≡ true
     → clocks_below (e ∷ es) d.clocks ≡ true → is_more others ≡ true
@@ -323,7 +317,7 @@ events_again : (l : LineSpelling) (d : Draft) (e : Event) (es : List Event) (oth
 events_again l d e [] others k b p owed fits rise low more =
     let order = and_true (leb d.event_least e.clock) true rise in
     let below = and_true (ltb e.clock d.clocks) true low in
-    let fit : SaidFits d (said.Event e) = record {
+    let fit : SaidFits d (parsed.Event e) = record {
       body = b;
       owed = omega (arith, owed);
       fits = All-head EventFits e [] fits;
@@ -331,27 +325,27 @@ events_again l d e [] others k b p owed fits rise low more =
       order = leb-true d.event_least e.clock order.0;
     } in
     let none : d.owed - 1 ≡ 0 = omega (arith, owed) in
-    let next = last_next d e (zero_test (d.owed - 1) none) in
-    let last : next_of d (said.Event e) ≡ record (with_last d e) { owed = 0 } = next ∙ ap (λ n. record (with_last d e) { owed = n })
+    let next = last_next d e (equal (d.owed - 1) 0 none) in
+    let last : next_of d (parsed.Event e) ≡ record (with_last d e) { owed = 0 } = next ∙ ap (λ n. record (with_last d e) { owed = n })
     none in
     record {
       read = d.read + 1;
       body = omega (arith, b);
-      kept = subst Kept last (kept_next d (said.Event e) k (due_event d b p (omega (arith, owed))) fit);
-      same = step l d (said.Event e) others k (due_event d b p (omega (arith, owed))) fit more ∙ ap (λ y. read_from y others) last;
+      kept = subst Kept last (kept_next d (parsed.Event e) k (due_event d b p (omega (arith, owed))) fit);
+      same = step l d (parsed.Event e) others k (due_event d b p (omega (arith, owed))) fit more ∙ ap (λ y. read_from y others) last;
     }
 events_again l d e (x ∷ es) others k b p owed fits rise low more =
     let order = and_true (leb d.event_least e.clock) (rises_from (e.clock + 1) (map (λ y. y.clock) (x ∷ es))) rise in
     let below = and_true (ltb e.clock d.clocks) (clocks_below (x ∷ es) d.clocks) low in
-    let fit : SaidFits d (said.Event e) = record {
+    let fit : SaidFits d (parsed.Event e) = record {
       body = b;
       owed = omega (arith, owed);
       fits = All-head EventFits e (x ∷ es) fits;
       below = leb-true (suc e.clock) d.clocks below.0;
       order = leb-true d.event_least e.clock order.0;
     } in
-    let next = event_next d e (some_test (d.owed - 1) (omega (arith, owed))) in
-    let kept : Kept (with_event d e) = subst Kept next (kept_next d (said.Event e) k (due_event d b p (omega (arith, owed))) fit) in
+    let next = event_next d e (not_equal (d.owed - 1) 0 (omega (arith, owed))) in
+    let kept : Kept (with_event d e) = subst Kept next (kept_next d (parsed.Event e) k (due_event d b p (omega (arith, owed))) fit) in
     let later = events_again l (with_event d e) x es others kept (omega (arith, b)) p (omega (arith, owed))
     (All-tail EventFits e (x ∷ es) fits) order.1 below.1 more in
     let seam = append_assoc d.events (e ∷ []) (x ∷ es) in
@@ -360,7 +354,7 @@ events_again l d e (x ∷ es) others k b p owed fits rise low more =
       body = later.body;
       kept = subst (λ ys. Kept (with_kinds d later.read (d.kinds ++ ys ∷ []) (d.lengths ++ d.clocks ∷ []))) seam later.kept;
       same =
-          step l d (said.Event e) (event_lines (x ∷ es) ++ others) k (due_event d b p (omega (arith, owed))) fit refl
+          step l d (parsed.Event e) (event_lines (x ∷ es) ++ others) k (due_event d b p (omega (arith, owed))) fit refl
           ∙ (ap (λ y. read_from y (event_lines (x ∷ es) ++ others)) next
           ∙ (later.same ∙ ap (λ ys. read_from (with_kinds d later.read (d.kinds ++ ys ∷ []) (d.lengths ++ d.clocks ∷ [])) others) seam));
     }
@@ -419,7 +413,7 @@ kinds_again l d ((e ∷ es) ∷ kinds) (n ∷ lengths) others k b p between coun
     let few = events_few (e ∷ es) 0 n (omega arith) first.rise this.1 in
     let room : length d.kinds < d.sizes.kinds = omega (arith, count) in
     let says : KindLine = record { events = length (e ∷ es); clocks = n } in
-    let fit : SaidFits d (said.Kind says) = record {
+    let fit : SaidFits d (parsed.Kind says) = record {
       body = b;
       none_owed = between.0;
       room = room;
@@ -427,11 +421,11 @@ kinds_again l d ((e ∷ es) ∷ kinds) (n ∷ lengths) others k b p between coun
     } in
     let later_lines = kinds_then d.version kinds lengths others in
     let is = due_kind d b p between.0 room in
-    let next = next_of d (said.Kind says) in
+    let next = next_of d (parsed.Kind says) in
     let rise : rises_from d.event_least (map (λ x. x.clock) (e ∷ es)) ≡ true =
     subst (λ m. rises_from m (map (λ x. x.clock) (e ∷ es)) ≡ true) (sym between.3) first.rise in
     let body : 4 ≤ d.read + 1 = omega (arith, b) in
-    let a = events_again l next e es later_lines (kept_next d (said.Kind says) k is fit) body p (omega arith) first.each rise this.1
+    let a = events_again l next e es later_lines (kept_next d (parsed.Kind says) k is fit) body p (omega arith) first.each rise this.1
     (kinds_more d.version kinds lengths others more) in
     let seam : d.events ++ e ∷ es ≡ e ∷ es = ap (λ ys. ys ++ e ∷ es) between.2 in
     let with : List Event → Draft = λ ys. with_kinds d a.read (d.kinds ++ ys ∷ []) (d.lengths ++ n ∷ []) in
@@ -448,7 +442,7 @@ kinds_again l d ((e ∷ es) ∷ kinds) (n ∷ lengths) others k b p between coun
       kept = subst (λ ns. Kept (with_kinds d later.read (d.kinds ++ (e ∷ es) ∷ kinds) ns)) measured
           (subst (λ ks. Kept (with_kinds d later.read ks ((d.lengths ++ n ∷ []) ++ lengths))) joined later.kept);
       same =
-          step l d (said.Kind says) (event_lines (e ∷ es) ++ later_lines) k is fit refl
+          step l d (parsed.Kind says) (event_lines (e ∷ es) ++ later_lines) k is fit refl
           ∙ (a.same ∙ (ap (λ ys. read_from (with ys) later_lines) seam
           ∙ (later.same ∙ (ap (λ ks. read_from (with_kinds d later.read ks ((d.lengths ++ n ∷ []) ++ lengths)) others) joined
           ∙ ap (λ ns. read_from (with_kinds d later.read (d.kinds ++ (e ∷ es) ∷ kinds) ns) others) measured))));
@@ -481,17 +475,17 @@ cells_again l d [] others k b count fits rise more =
 cells_again l d (c ∷ cells) others k b count fits rise more =
     let order = and_true (leb d.cell_least c.at) (rises_from (c.at + 1) (map (λ m. m.at) cells)) rise in
     let room : length d.head.cells.items < d.sizes.cells = omega (arith, count) in
-    let fit : SaidFits d (said.Cell c) = record {
+    let fit : SaidFits d (parsed.Cell c) = record {
       body = b;
       room = room;
       fits = All-head (CellFits d.head) c cells fits;
       order = leb-true d.cell_least c.at order.0;
     } in
     let is = due_cell d b room in
-    let next = next_of d (said.Cell c) in
+    let next = next_of d (parsed.Cell c) in
     let refitted = All-weaker (CellFits d.head) (CellFits next.head) (λ x f. same_cell d.head next.head x refl refl f) cells
     (All-tail (CellFits d.head) c cells fits) in
-    let later = cells_again l next cells others (kept_next d (said.Cell c) k is fit) (omega (arith, b)) (simp length-append (omega (arith, count))) refitted
+    let later = cells_again l next cells others (kept_next d (parsed.Cell c) k is fit) (omega (arith, b)) (simp length-append (omega (arith, count))) refitted
     order.1 more in
     let joined = append_assoc d.head.cells.items (c ∷ []) cells in
     record {
@@ -500,6 +494,6 @@ cells_again l d (c ∷ cells) others k b count fits rise more =
       body = later.body;
       kept = subst (λ cs. Kept (with_cells d later.read later.least cs)) joined later.kept;
       same =
-          step l d (said.Cell c) (cell_lines cells ++ others) k is fit (more_lines (cell_lines cells) others more)
+          step l d (parsed.Cell c) (cell_lines cells ++ others) k is fit (more_lines (cell_lines cells) others more)
           ∙ (later.same ∙ ap (λ cs. read_from (with_cells d later.read later.least cs) others) joined);
     }

@@ -3,10 +3,10 @@ use Rattle.std.proofs.Common.{◌≡◌, ◌≢◌, ℕ, ◌<◌, ◌≤◌, Boo
 use Rattle.std.proofs.Common.{subst, arith}
 use Rattle.std.specs.Prelude.{Option, Some, None}
 use Rattle.std.proofs.lemmas.Bool.{ltb-true, ltb-false, eqb-true, eqb-false}
-use Rattle.uz_cert.specs.Drafts.{lacks, due_of, due_of_schedule, due_of_states}
+use Rattle.uz_cert.specs.Drafts.{lacks, expected_line, expected_in_schedule, expected_in_states}
 use Rattle.uz_cert.specs.Kept.{IsBody, IsAfterCells}
-use Rattle.uz_cert.specs.declared.due.Due.{Due}
-use Rattle.uz_cert.specs.declared.due.Due.TheVariants as due
+use Rattle.uz_cert.specs.declared.expected_line.ExpectedLine.{ExpectedLine}
+use Rattle.uz_cert.specs.declared.expected_line.ExpectedLine.TheVariants as expected
 use Rattle.uz_cert.specs.declared.draft.Draft.{Draft}
 
 -- after all runs
@@ -18,19 +18,19 @@ pub record InStates (d : Draft) : Type 0 where
   pub lines : d.sizes.lines ≤ length d.lines
 
 -- what holds where this is due
-abbrev pub IsDue : Draft → Due → Type 0
-IsDue d due.Size = d.read ≡ 1
-IsDue d due.Irq = d.read ≡ 2
-IsDue d due.Stack = d.read ≡ 3
-IsDue d due.Cell = IsBody d × (length d.head.cells.items < d.sizes.cells)
-IsDue d due.Event = IsAfterCells d × (1 ≤ d.owed)
-IsDue d due.Kind = IsAfterCells d × (d.owed ≡ 0) × (length d.kinds < d.sizes.kinds)
-IsDue d due.Fall = IsAfterCells d × (d.owed ≡ 0) × (d.sizes.kinds ≤ length d.kinds) × (d.fall ≡ 0)
-IsDue d due.Run = IsAfterCells d × (d.fall ≢ 0) × (length d.lines < d.sizes.lines)
-IsDue d due.Rest = InStates d × (length d.rests < d.sizes.rests)
-IsDue d due.Entry = InStates d × (d.sizes.rests ≤ length d.rests) × (lacks d.entry ≡ true)
-IsDue d due.Point = InStates d × (d.sizes.rests ≤ length d.rests) × (lacks d.entry ≡ false) × (length d.points < d.sizes.points)
-IsDue d due.End = InStates d × (d.sizes.points ≤ length d.points) × (d.ended ≡ false)
+abbrev pub IsExpected : Draft → ExpectedLine → Type 0
+IsExpected d expected.Size = d.read ≡ 1
+IsExpected d expected.Irq = d.read ≡ 2
+IsExpected d expected.Stack = d.read ≡ 3
+IsExpected d expected.Cell = IsBody d × (length d.head.cells.items < d.sizes.cells)
+IsExpected d expected.Event = IsAfterCells d × (1 ≤ d.owed)
+IsExpected d expected.Kind = IsAfterCells d × (d.owed ≡ 0) × (length d.kinds < d.sizes.kinds)
+IsExpected d expected.Fall = IsAfterCells d × (d.owed ≡ 0) × (d.sizes.kinds ≤ length d.kinds) × (d.fall ≡ 0)
+IsExpected d expected.Run = IsAfterCells d × (d.fall ≢ 0) × (length d.lines < d.sizes.lines)
+IsExpected d expected.Rest = InStates d × (length d.rests < d.sizes.rests)
+IsExpected d expected.Entry = InStates d × (d.sizes.rests ≤ length d.rests) × (lacks d.entry ≡ true)
+IsExpected d expected.Point = InStates d × (d.sizes.rests ≤ length d.rests) × (lacks d.entry ≡ false) × (length d.points < d.sizes.points)
+IsExpected d expected.End = InStates d × (d.sizes.points ≤ length d.points) × (d.ended ≡ false)
 
 pub record IsWhole (d : Draft) : Type 0 where
   pub states : InStates d
@@ -39,16 +39,16 @@ pub record IsWhole (d : Draft) : Type 0 where
   pub points : d.sizes.points ≤ length d.points
   pub ended : d.ended ≡ true
 
-abbrev DueIs : Draft → Option Due → Type 0
+abbrev DueIs : Draft → Option ExpectedLine → Type 0
 DueIs d None = IsWhole d
-DueIs d (Some due) = IsDue d due
+DueIs d (Some expected) = IsExpected d expected
 
 -- a test leads to one of two
 choose : {A : Type 0} (P : A → Type 0) (t : Bool) (x y : A) → (t ≡ true → P x) → (t ≡ false → P y) → P (cond t x y)
 choose P true x y h k = h refl
 choose P false x y h k = k refl
 
-states_due : (d : Draft) → InStates d → DueIs d (due_of_states d)
+states_due : (d : Draft) → InStates d → DueIs d (expected_in_states d)
 states_due d h =
     choose (DueIs d) (ltb (length d.rests) d.sizes.rests) _ _ (λ t. (h, ltb-true (length d.rests) d.sizes.rests t))
     (λ r. choose (DueIs d) (lacks d.entry) _ _ (λ t. (h, ltb-false (length d.rests) d.sizes.rests r, t))
@@ -67,7 +67,7 @@ states_due d h =
 none_owed : (n : ℕ) → ltb 0 n ≡ false → n ≡ 0
 none_owed n e = let few = ltb-false 0 n e in omega (arith, few)
 
-schedule_due : (d : Draft) → IsAfterCells d → DueIs d (due_of_schedule d)
+schedule_due : (d : Draft) → IsAfterCells d → DueIs d (expected_in_schedule d)
 schedule_due d h =
     choose (DueIs d) (ltb 0 d.owed) _ _ (λ t. (h, ltb-true 0 d.owed t))
     (λ o. choose (DueIs d) (ltb (length d.kinds) d.sizes.kinds) _ _
@@ -84,8 +84,8 @@ schedule_due d h =
       lines = ltb-false (length d.lines) d.sizes.lines l;
     })))))
 
-all_due : (d : Draft) → 1 ≤ d.read → DueIs d (due_of d)
-unfolding due_of
+all_due : (d : Draft) → 1 ≤ d.read → DueIs d (expected_line d)
+unfolding expected_line
 all_due d some =
     choose (DueIs d) (eqb d.read 1) _ _ (λ t. eqb-true d.read 1 t)
     (λ a. choose (DueIs d) (eqb d.read 2) _ _ (λ t. eqb-true d.read 2 t)
@@ -95,8 +95,8 @@ all_due d some =
     choose (DueIs d) (ltb (length d.head.cells.items) d.sizes.cells) _ _ (λ t. (body, ltb-true (length d.head.cells.items) d.sizes.cells t))
     (λ m. schedule_due d (record { body = body; cells = ltb-false (length d.head.cells.items) d.sizes.cells m })))))
 
-pub is_due : (d : Draft) (due : Due) → 1 ≤ d.read → due_of d ≡ Some due → IsDue d due
-is_due d due some e = subst (DueIs d) e (all_due d some)
+pub is_expected : (d : Draft) (expected : ExpectedLine) → 1 ≤ d.read → expected_line d ≡ Some expected → IsExpected d expected
+is_expected d expected some e = subst (DueIs d) e (all_due d some)
 
-pub is_whole : (d : Draft) → 1 ≤ d.read → due_of d ≡ None → IsWhole d
+pub is_whole : (d : Draft) → 1 ≤ d.read → expected_line d ≡ None → IsWhole d
 is_whole d some e = subst (DueIs d) e (all_due d some)

@@ -1,5 +1,5 @@
 -- The words of a line that is spelled, and what may be said by a line where it is due.
-use Rattle.std.specs.Prelude.{◌≢◌, ℕ, ◌<◌, ◌≤◌, true, List, [], ◌∷◌, All, length, codes, decimal}
+use Rattle.std.specs.Prelude.{◌≢◌, ℕ, ◌+◌, ◌<◌, ◌≤◌, true, List, [], ◌∷◌, All, length, codes, decimal}
 use Rattle.uz_schedule.specs.Limits.{most_lines}
 use Rattle.uz_schedule.specs.Schedule.{response_clocks}
 use Rattle.uz_schedule.specs.WellFormed.{CellFits, StackFits}
@@ -43,3 +43,8 @@ pub record PlacesAre (h : Head) (lines points : ℕ) : Type 0 where
   pub stack : StackFits h
   pub lines_few : lines ≤ most_lines
   pub points_few : points ≤ 524288
+
+-- the least number that keeps the order after these, which rise from this one
+abbrev pub least_after : ℕ → List ℕ → ℕ
+least_after least [] = least
+least_after least (x ∷ xs) = least_after (x + 1) xs

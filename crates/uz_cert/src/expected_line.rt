@@ -2,7 +2,7 @@
 
 /// A kind of line that may be due, after the first line.
 #[derive(Clone, Copy)]
-pub enum Due {
+pub enum ExpectedLine {
     /// `size KINDS LINES RESTS POINTS CELLS`
     Size,
     /// `irq R`

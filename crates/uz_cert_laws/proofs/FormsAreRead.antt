@@ -1,45 +1,29 @@
--- An item that is spelled as one of the eight forms is taken.
-use Rattle.std.proofs.Common.{◌≡◌, ℕ, zero, suc, ◌+◌, ◌<◌, ◌≤◌, ◌≢◌, ◌^◌, Bool, true, false, cond, not, ◌-◌, ◌||◌, eqb, leb, ltb, List, [], ◌∷◌, ◌++◌, length}
-use Rattle.std.proofs.Common.{decimal, codes, lit<, lit≤, refl, ◌∙◌, ap, arith}
-use Rattle.std.specs.Prelude.{Some, Ok, Err}
-use Rattle.uz_hex.specs.Numbers.{is_numeral, number_below}
-use Rattle.uz_hex.proofs.Cuts.{cut_again}
-use Rattle.uz_hex.proofs.NumberWords.{number_again}
-use Rattle.uz_hex.proofs.Plain.{Lacks, lacks_cons, decimal_lacks_above}
-use Rattle.uz_schedule.specs.Ends.{Ends}
-use Rattle.uz_schedule.specs.Limits.{is_top}
-use Rattle.uz_schedule.specs.Schedule.{scanline, half_line}
-use Rattle.uz_schedule.specs.Tracked.{tracks}
-use Rattle.uz_schedule.specs.WellFormed.{is_default_flag}
-use Rattle.uz_schedule.specs.declared.header.Cell.{Cell}
-use Rattle.uz_schedule.specs.declared.facts.Fact.{Fact}
-use Rattle.uz_schedule.specs.declared.facts.PairFact.{PairFact}
-use Rattle.uz_schedule.specs.declared.facts.Bit.{Bit}
-use Rattle.uz_cert_lines.specs.Why.{◌>>=◌}
-use Rattle.uz_cert_lines.specs.Values.{digits, one_number, range, raw_of, fact_of, pair_of, ends_of, bit_of}
-use Rattle.uz_cert_lines.specs.Defaults.{is_default, is_any_pair, is_range, is_default_top}
-use Rattle.uz_cert_lines.specs.Items.{is_handler, bytes_forms, register_set, register_key, take_register, pair_forms, pair_set, take_pair}
-use Rattle.uz_cert_lines.specs.Items.{flag_set, take_flag, slot_set, slot_room, take_slot, with_number, cell_at, cell_forms, numbered}
-use Rattle.uz_cert_lines.specs.Items.{cell_set, cell_value, take_cell, successor_set, take_successor, is_flag_z, take_letter, take_cut}
-use Rattle.uz_cert_lines.specs.Items.{top_set, top_value, take_top, temp_forms, temp_set, take_temp, take_named, take_item}
-use Rattle.uz_cert_lines.specs.declared.items.Shape.{Shape}
-use Rattle.uz_cert_lines.specs.declared.items.Facts.{Facts}
+-- An item that is spelled as one of the forms is taken.
+use Rattle.uz_cert_laws.proofs.Common.{◌≡◌, ℕ, zero, suc, ◌+◌, ◌<◌, ◌≤◌, ◌≢◌, ◌^◌, Bool, true, false, cond, not, ◌||◌, eqb, leb, ltb}
+use Rattle.uz_cert_laws.proofs.Common.{List, [], ◌∷◌, ◌++◌, length, decimal, codes, lit<, lit≤, refl, ◌∙◌, ap, arith, Some, Ok, Err}
+use Rattle.uz_cert_laws.proofs.Common.{is_numeral, number_below, cut_again, number_again, Lacks, lacks_cons, tracks, is_default_flag, Cell}
+use Rattle.uz_cert_laws.proofs.Common.{Fact, PairFact, Bit, ◌>>=◌, digits, raw_of, fact_of, pair_of, bit_of, is_default, is_any_pair}
+use Rattle.uz_cert_laws.proofs.Common.{is_range, is_handler, bytes_forms, register_set, register_key, take_register, pair_forms, pair_set}
+use Rattle.uz_cert_laws.proofs.Common.{take_pair, flag_set, take_flag, slot_set, slot_room, take_slot, with_number, cell_at, cell_forms}
+use Rattle.uz_cert_laws.proofs.Common.{numbered, cell_set, cell_value, take_cell, successor_set, take_successor, is_flag_z, take_letter}
+use Rattle.uz_cert_laws.proofs.Common.{take_cut, take_second, take_named, take_item, Shape, Facts, item, fact_word, pair_word, flag_word}
+use Rattle.uz_hex.proofs.Plain.{decimal_lacks_above}
+use Rattle.uz_cert_lines.specs.Items.{take_named_value}
 use Rattle.uz_cert_lines.specs.declared.why.CertWhy.TheVariants as why
-use Rattle.uz_cert_writer.specs.Spelling.{range_word, item, fact_word, pair_word, flag_word}
-use Rattle.uz_cert_laws.proofs.Tests.{so, else_so, then, is_le, is_lt, number_is}
-use Rattle.uz_cert_laws.proofs.Numbers.{digits_so, numeral_so, one_so}
-use Rattle.uz_cert_laws.proofs.Facts.{fact_raw, fact_so, PairIn, pair_raw, pair_so, BitIn, bit_so, temp_raw, temp_so}
-use Rattle.uz_cert_laws.proofs.Taken.{with_register, with_pair, with_flag, with_slot, with_cell, with_top, with_temp, with_successor, pair_letter}
-use Rattle.uz_cert_laws.proofs.Taken.{flag_letter}
-use Rattle.uz_cert_laws.proofs.Taken.{TakesRegister, TakesPair, TakesTop, TakesTemp}
-use Rattle.uz_cert_laws.proofs.Taken.{TakesFlag, TakesSlot, TakesCell, TakesSuccessor, PlacesFit, cell_form, cell_limit, cell_range}
-use Rattle.uz_cert_laws.proofs.Taken.{order_so}
+use Rattle.uz_cert_laws.proofs.Tests.{not_number, so, else_so, then, is_le, is_lt}
+use Rattle.uz_cert_laws.proofs.Named.{order_so, is_name, lacks_is, IsName, letters}
+use Rattle.uz_cert_laws.proofs.Numbers.{digits_so, numeral_so}
+use Rattle.uz_cert_laws.proofs.Facts.{fact_raw, fact_so, PairIn, pair_raw, pair_so, BitIn, bit_so}
+use Rattle.uz_cert_laws.proofs.ItemForms.{with_register, with_pair, with_flag, with_slot, with_cell, with_successor, pair_letter}
+use Rattle.uz_cert_laws.proofs.ItemForms.{flag_letter}
+use Rattle.uz_cert_laws.proofs.ItemForms.{RegisterForm, PairForm}
+use Rattle.uz_cert_laws.proofs.ItemForms.{FlagForm, SlotForm, CellForm, SuccessorForm, PlacesFit, cell_form, cell_limit, cell_range}
 
 key_lacks : (letter n : ℕ) → letter ≢ 61 → n < 2 ^ 64 → Lacks 61 (letter ∷ decimal n)
 key_lacks letter n h k = lacks_cons 61 letter (decimal n) h (decimal_lacks_above 61 n (lit< tt) k)
 
 pub register_takes : (shape : Shape) (cells : List Cell) (facts : Facts) (later : List (List ℕ)) (r : ℕ) (f : Fact)
-    → TakesRegister shape facts (item (114 ∷ decimal r) (fact_word f)) r f
+    → RegisterForm shape facts (item (114 ∷ decimal r) (fact_word f)) r f
     → take_item shape cells facts (item (114 ∷ decimal r) (fact_word f)) later ≡ Ok (with_register facts r f)
 unfolding take_item take_named take_register
 register_takes shape cells facts later r f t =
@@ -90,7 +74,7 @@ pair_letter_takes shape cells facts value later (suc (suc (suc k))) l z = absurd
     past k h = omega arith
 
 pub pair_takes : (shape : Shape) (cells : List Cell) (facts : Facts) (later : List (List ℕ)) (w : List ℕ) (k : ℕ) (f : PairFact)
-    → TakesPair shape facts w later k f → take_item shape cells facts w later ≡ Ok (with_pair facts k f)
+    → PairForm shape facts w later k f → take_item shape cells facts w later ≡ Ok (with_pair facts k f)
 pair_takes shape cells facts later w k f t =
     ap (λ v. take_item shape cells facts v later) t.word ∙ pair_letter_takes shape cells facts (pair_word f) later k t.there t.meant
     ∙ pair_set_so shape facts k f t.whole t.fits t.order t.other
@@ -113,13 +97,13 @@ flag_letter_takes shape cells facts value later (suc (suc (suc (suc (suc (suc (s
     past b h = omega arith
 
 pub flag_takes : (shape : Shape) (cells : List Cell) (facts : Facts) (later : List (List ℕ)) (w : List ℕ) (b : ℕ) (bit : Bit)
-    → TakesFlag shape facts w later b bit → take_item shape cells facts w later ≡ Ok (with_flag facts b bit)
+    → FlagForm shape facts w later b bit → take_item shape cells facts w later ≡ Ok (with_flag facts b bit)
 flag_takes shape cells facts later w b bit t =
     ap (λ v. take_item shape cells facts v later) t.word ∙ flag_letter_takes shape cells facts (flag_word bit) later b t.there t.meant
     ∙ flag_set_so shape facts b bit t.fits t.order t.other
 
 pub slot_takes : (shape : Shape) (cells : List Cell) (facts : Facts) (later : List (List ℕ)) (f : Fact)
-    → TakesSlot shape facts (codes "s:" ++ fact_word f) f → take_item shape cells facts (codes "s:" ++ fact_word f) later ≡ Ok
+    → SlotForm shape facts (codes "s:" ++ fact_word f) f → take_item shape cells facts (codes "s:" ++ fact_word f) later ≡ Ok
     (with_slot facts f)
 unfolding take_item take_slot
 slot_takes shape cells facts later f t =
@@ -134,7 +118,7 @@ slot_takes shape cells facts later f t =
 
 pub cell_takes : (shape : Shape) (cells : List Cell) (facts : Facts) (later : List (List ℕ)) (i : ℕ) (c : Cell) (f : Fact) → PlacesFit shape
     cells
-    → TakesCell shape cells facts (item (109 ∷ decimal i) (fact_word f)) i c f
+    → CellForm shape cells facts (item (109 ∷ decimal i) (fact_word f)) i c f
     → take_item shape cells facts (item (109 ∷ decimal i) (fact_word f)) later ≡ Ok (with_cell shape cells facts i f)
 unfolding take_item take_named take_cell
 cell_takes shape cells facts later i c f fits t =
@@ -159,40 +143,40 @@ cell_takes shape cells facts later i c f fits t =
     ∙ then (fact_of (fact_raw f)) (λ fact. cell_set shape cells facts i c.range fact) f (Ok (with_cell shape cells facts i f)) fact.1
     (order_so facts (43 + i) (is_range c.range f) (with_cell shape cells facts i f) t.order t.other))
 
--- OCR1A and TEMP
+-- by the name
 
-pub top_below : (top : ℕ) → is_top top ≡ true → top < scanline
-top_below top h = by_half (eqb top (half_line - 1)) refl h
+pub name_takes : (shape : Shape) (cells : List Cell) (facts : Facts) (key value : List ℕ) (later : List (List ℕ)) → is_name key ≡ true
+    → take_item shape cells facts (item key value) later ≡ take_named_value shape facts key value
+unfolding take_item take_named
+name_takes shape cells facts [] value later e = absurd cc
+name_takes shape cells facts (c ∷ []) value later e = absurd cc
+name_takes shape cells facts (c ∷ d ∷ cs) value later e =
+    else_so (eqb c 62) (take_successor shape facts (d ∷ rest))
+    (cond (eqb c 115) (take_second shape cells facts (c ∷ d ∷ rest) (d ∷ rest) later) (take_named shape cells facts (c ∷ d ∷ rest) later))
+    is.no_successor
+    ∙ by_second (eqb c 115)
+    ∙ ap (λ o. take_cut shape cells facts o later) (cut_again 61 (c ∷ d ∷ cs) value (lacks_is 61 (c ∷ d ∷ cs) is.lack))
+    ∙ else_so (eqb c 114) (take_register shape facts (d ∷ cs) value) _ is.no_register
+    ∙ else_so (eqb c 109) (take_cell shape cells facts (d ∷ cs) value) _ is.no_cell
+    ∙ else_so (eqb (length (d ∷ cs)) 0) (take_letter shape facts c value later) (take_named_value shape facts (c ∷ d ∷ cs) value)
+    (not_number (length (d ∷ cs)) 0 (some (length cs)))
   where
-    by_half : (t : Bool) → eqb top (half_line - 1) ≡ t → (t || eqb top (scanline - 1)) ≡ true → top < scanline
-    by_half true e h = omega (arith, number_is top (half_line - 1) e)
-    by_half false e h = omega (arith, number_is top (scanline - 1) h)
+    rest : List ℕ
+    rest = cs ++ 61 ∷ value
 
-pub top_takes : (shape : Shape) (cells : List Cell) (facts : Facts) (later : List (List ℕ)) (top : ℕ)
-    → TakesTop shape facts (item (codes "top") (decimal top)) top
-    → take_item shape cells facts (item (codes "top") (decimal top)) later ≡ Ok (with_top facts top)
-unfolding take_item take_named take_top
-top_takes shape cells facts later top t =
-    so shape.timed (one_number 0 scanline (decimal top) >>= (λ n. top_value facts n)) (Err why.Word) t.timed
-    ∙ then (one_number 0 scanline (decimal top)) (λ n. top_value facts n) top (Ok (with_top facts top))
-    (one_so 0 scanline top (lit≤ tt) (omega arith) (top_below top t.fits))
-    (so (is_top top) (top_set facts top) (Err why.Limit) t.fits
-    ∙ order_so facts 59 (is_default_top top) (with_top facts top) t.order t.other)
+    is : IsName c d cs
+    is = letters c d cs e
 
-pub temp_takes : (shape : Shape) (cells : List Cell) (facts : Facts) (later : List (List ℕ)) (temp : Ends)
-    → TakesTemp shape facts (item (codes "temp") (range_word temp)) temp
-    → take_item shape cells facts (item (codes "temp") (range_word temp)) later ≡ Ok (with_temp facts temp)
-unfolding take_item take_named take_temp
-temp_takes shape cells facts later temp t =
-    let is = temp_so temp t.fits in
-    so shape.timed (range temp_forms (range_word temp) >>= (λ raw. ends_of raw >>= (λ e. temp_set facts e))) (Err why.Word) t.timed
-    ∙ then (range temp_forms (range_word temp)) (λ raw. ends_of raw >>= (λ e. temp_set facts e)) (temp_raw temp)
-    (Ok (with_temp facts temp)) is.0
-    (then (ends_of (temp_raw temp)) (λ e. temp_set facts e) temp (Ok (with_temp facts temp)) is.1
-    (order_so facts 60 false (with_temp facts temp) t.order refl))
+    by_second : (t : Bool) → cond t (cond (eqb d 58) (take_slot shape facts rest) (take_named shape cells facts (c ∷ d ∷ rest) later))
+        (take_named shape cells facts (c ∷ d ∷ rest) later) ≡ take_named shape cells facts (c ∷ d ∷ rest) later
+    by_second true = else_so (eqb d 58) (take_slot shape facts rest) (take_named shape cells facts (c ∷ d ∷ rest) later) is.no_slot
+    by_second false = refl
+
+    some : (n : ℕ) → suc n ≢ 0
+    some n e = omega arith
 
 pub successor_takes : (shape : Shape) (cells : List Cell) (facts : Facts) (later : List (List ℕ)) (id : ℕ) → PlacesFit shape cells
-    → TakesSuccessor shape facts (62 ∷ decimal id) id
+    → SuccessorForm shape facts (62 ∷ decimal id) id
     → take_item shape cells facts (62 ∷ decimal id) later ≡ Ok (with_successor facts id)
 unfolding take_item take_successor
 successor_takes shape cells facts later id fits t =
