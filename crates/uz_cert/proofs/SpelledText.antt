@@ -41,6 +41,7 @@ use Rattle.uz_cert.proofs.KeptLaws.{next_of, kept_next, same_cell}
 use Rattle.uz_cert.proofs.LineOrder.{PastCells, PastKinds, PastFall, PastRuns, PastRests, PastEntry, PastPoints}
 use Rattle.uz_cert.proofs.LineOrder.{due_cell, due_event, due_kind, due_fall, due_run, due_rest, due_entry, due_point, due_end, due_none}
 use Rattle.uz_cert.proofs.LineOrder.{equal, not_equal}
+use Rattle.uz_cert.proofs.TextLaws.{more_after}
 
 abbrev pub spelled : Version → Head → ParsedLine → List ℕ
 spelled v h s = line_of (said_words v h s)
@@ -63,10 +64,6 @@ step l d s rest k is fits more =
     (ap (line_says d (expected_as s) (spelled d.version d.head s)) more
     ∙ says d (expected_as s) (spelled d.version d.head s) s
     (ap (reads (form_of d (expected_as s))) (line_cut l d s k is fits) ∙ l.again d s k is fits))
-
-more_after : (lines : List (List ℕ)) (piece : List ℕ) (rest : List (List ℕ)) → is_more (lines ++ piece ∷ rest) ≡ true
-more_after [] piece rest = refl
-more_after (line ∷ lines) piece rest = refl
 
 -- the end
 

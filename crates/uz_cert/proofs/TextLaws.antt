@@ -254,7 +254,7 @@ add_read l d m line rest a more =
     a.allowed))
     ∙ ap (λ x. read_from x rest) (sym a.leads))
 
-more_after : (lines : List (List ℕ)) (piece : List ℕ) (rest : List (List ℕ)) → is_more (lines ++ piece ∷ rest) ≡ true
+pub more_after : (lines : List (List ℕ)) (piece : List ℕ) (rest : List (List ℕ)) → is_more (lines ++ piece ∷ rest) ≡ true
 more_after [] piece rest = refl
 more_after (line ∷ lines) piece rest = refl
 

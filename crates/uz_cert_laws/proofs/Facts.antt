@@ -58,14 +58,12 @@ part_of_one top n h k = record { range = record { order = omega arith; high = k 
     either zero = inr h
     either (suc n) = inl (omega arith)
 
-part_of_two : (top lo hi : ℕ) → is_ordered top lo hi ≡ true → hi ≤ top → PartFits top (ends lo hi)
-part_of_two top lo hi h k =
-    let two = and_true (ltb lo hi) (not (eqb lo 0 && eqb hi top)) h in
-    let below : lo < hi = lt_is lo hi two.0 in
-    record {
-      range = record { order = omega arith; high = k };
-      part = either (and_false (eqb lo 0) (eqb hi top) (not_true (eqb lo 0 && eqb hi top) two.1));
-    }
+not_whole : (top lo hi : ℕ) → hi ≤ top → (eqb lo 0 && eqb hi top) ≡ false → (0 < lo) ⊎ (hi < top)
+not_whole top lo hi h t =
+    elim (and_false (eqb lo 0) (eqb hi top) t) [
+      | inl f ↦ inl (above lo (number_not lo 0 f))
+      | inr f ↦ inr (under hi (number_not hi top f) h)
+    ]
   where
     above : (lo : ℕ) → lo ≢ 0 → 0 < lo
     above lo h = omega arith
@@ -73,8 +71,14 @@ part_of_two top lo hi h k =
     under : (hi : ℕ) → hi ≢ top → hi ≤ top → hi < top
     under hi h k = omega arith
 
-    either : (eqb lo 0 ≡ false) ⊎ (eqb hi top ≡ false) → (0 < lo) ⊎ (hi < top)
-    either d = elim d [ inl f ↦ inl (above lo (number_not lo 0 f)) | inr f ↦ inr (under hi (number_not hi top f) k) ]
+part_of_two : (top lo hi : ℕ) → is_ordered top lo hi ≡ true → hi ≤ top → PartFits top (ends lo hi)
+part_of_two top lo hi h k =
+    let two = and_true (ltb lo hi) (not (eqb lo 0 && eqb hi top)) h in
+    let below : lo < hi = lt_is lo hi two.0 in
+    record {
+      range = record { order = omega arith; high = k };
+      part = not_whole top lo hi k (not_true (eqb lo 0 && eqb hi top) two.1);
+    }
 
 pub part_not_whole : (top : ℕ) (e : Ends) → PartFits top e → (eqb e.lo 0 && eqb e.hi top) ≡ false
 part_not_whole top e h = by_side h.part
@@ -314,19 +318,7 @@ whole_ends e t =
     ends_same 0 255 e.lo e.hi (sym (number_is e.lo 0 two.0)) (sym (number_is e.hi 255 two.1))
 
 pub part_from : (e : Ends) → RangeFits 255 e → (eqb e.lo 0 && eqb e.hi 255) ≡ false → PartFits 255 e
-part_from e h t = record { range = h; part = either (and_false (eqb e.lo 0) (eqb e.hi 255) t) }
-  where
-    high : e.hi ≤ 255
-    high = h.high
-
-    above : (lo : ℕ) → lo ≢ 0 → 0 < lo
-    above lo h = omega arith
-
-    under : (hi : ℕ) → hi ≢ 255 → hi ≤ 255 → hi < 255
-    under hi h k = omega arith
-
-    either : (eqb e.lo 0 ≡ false) ⊎ (eqb e.hi 255 ≡ false) → (0 < e.lo) ⊎ (e.hi < 255)
-    either d = elim d [ inl f ↦ inl (above e.lo (number_not e.lo 0 f)) | inr f ↦ inr (under e.hi (number_not e.hi 255 f) high) ]
+part_from e h t = record { range = h; part = not_whole 255 e.lo e.hi h.high t }
 
 ends_again : (e : Ends) → PartFits 255 e → (t : Bool) → eqb e.lo e.hi ≡ t → ends_of (raw_by false t e) ≡ Ok e
 ends_again e part true t = ap (λ x. fine x) (one_is e t)

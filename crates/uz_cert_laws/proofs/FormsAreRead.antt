@@ -10,7 +10,7 @@ use Rattle.uz_cert_laws.proofs.Common.{take_cut, take_second, take_named, take_i
 use Rattle.uz_hex.proofs.Plain.{decimal_lacks_above}
 use Rattle.uz_cert_lines.specs.Items.{take_named_value}
 use Rattle.uz_cert_lines.specs.declared.why.CertWhy.TheVariants as why
-use Rattle.uz_cert_laws.proofs.Tests.{not_number, so, else_so, then, is_le, is_lt}
+use Rattle.uz_cert_laws.proofs.Tests.{some_not, not_number, so, else_so, then, is_le, is_lt}
 use Rattle.uz_cert_laws.proofs.Named.{order_so, is_name, lacks_is, IsName, letters}
 use Rattle.uz_cert_laws.proofs.Numbers.{digits_so, numeral_so}
 use Rattle.uz_cert_laws.proofs.Facts.{fact_raw, fact_so, PairIn, pair_raw, pair_so, BitIn, bit_so}
@@ -159,7 +159,7 @@ name_takes shape cells facts (c ∷ d ∷ cs) value later e =
     ∙ else_so (eqb c 114) (take_register shape facts (d ∷ cs) value) _ is.no_register
     ∙ else_so (eqb c 109) (take_cell shape cells facts (d ∷ cs) value) _ is.no_cell
     ∙ else_so (eqb (length (d ∷ cs)) 0) (take_letter shape facts c value later) (take_named_value shape facts (c ∷ d ∷ cs) value)
-    (not_number (length (d ∷ cs)) 0 (some (length cs)))
+    (not_number (length (d ∷ cs)) 0 (some_not (length cs)))
   where
     rest : List ℕ
     rest = cs ++ 61 ∷ value
@@ -171,9 +171,6 @@ name_takes shape cells facts (c ∷ d ∷ cs) value later e =
         (take_named shape cells facts (c ∷ d ∷ rest) later) ≡ take_named shape cells facts (c ∷ d ∷ rest) later
     by_second true = else_so (eqb d 58) (take_slot shape facts rest) (take_named shape cells facts (c ∷ d ∷ rest) later) is.no_slot
     by_second false = refl
-
-    some : (n : ℕ) → suc n ≢ 0
-    some n e = omega arith
 
 pub successor_takes : (shape : Shape) (cells : List Cell) (facts : Facts) (later : List (List ℕ)) (id : ℕ) → PlacesFit shape cells
     → SuccessorForm shape facts (62 ∷ decimal id) id

@@ -12,7 +12,7 @@ use Rattle.uz_cert_laws.proofs.Common.{FactForms, Raw, Shape, Facts, CertWhy, it
 use Rattle.std.specs.Prelude.{All, slice_index}
 use Rattle.uz_cert_lines.specs.Items.{take_keyed}
 use Rattle.uz_cert_lines.specs.declared.why.CertWhy.TheVariants as why
-use Rattle.uz_cert_laws.proofs.Tests.{tested, or_false, fine_is, fault_not, passed, failed, bind_ok, le_is}
+use Rattle.uz_cert_laws.proofs.Tests.{some_not, tested, or_false, fine_is, fault_not, passed, failed, bind_ok, le_is}
 use Rattle.uz_cert_laws.proofs.Tests.{lt_is, number_is}
 use Rattle.uz_cert_laws.proofs.Named.{order_is, SetsOne, listed_taken}
 use Rattle.uz_cert_laws.proofs.Facts.{FactIn, fact_only, PairIn, pair_only, BitIn, bit_only}
@@ -365,10 +365,7 @@ keyed_taken shape cells facts w (c ∷ cs) value later more fits e h =
 
     no_key : (ks : List ℕ) → eqb (length ks) 0 ≡ true → ks ≡ []
     no_key [] t = refl
-    no_key (k ∷ ks) t = absurd (some (length ks) (number_is (suc (length ks)) 0 t))
-      where
-        some : (n : ℕ) → suc n ≡ 0 → ⊥
-        some n e = omega arith
+    no_key (k ∷ ks) t = absurd (some_not (length ks) (number_is (suc (length ks)) 0 t))
 
 named_taken : (shape : Shape) (cells : List Cell) (facts : Facts) (w : List ℕ) (later : List (List ℕ)) (more : Facts)
     → PlacesFit shape cells → take_named shape cells facts w later ≡ Ok more → HasForm shape cells facts w later more

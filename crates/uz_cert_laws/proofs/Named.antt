@@ -82,7 +82,7 @@ value_so a_range x s f o =
     let is = temp_so x (part_from x f o) in
     then (range temp_forms (range_word x)) (λ raw. ends_of raw) (temp_raw x) (Ok x) is.0 is.1
 
-or_second : (a b : Bool) → b ≡ true → (a || b) ≡ true
+pub or_second : (a b : Bool) → b ≡ true → (a || b) ≡ true
 or_second true b e = refl
 or_second false b e = e
 

@@ -13,7 +13,7 @@ use Rattle.uz_cert_lines.specs.Grammar.{asked, number_or, signed_or, unsigned_or
 use Rattle.uz_cert_lines.specs.Values.{one_or, both}
 use Rattle.uz_cert_lines.specs.declared.words.NumberBounds.{NumberBounds}
 use Rattle.uz_cert_lines.specs.declared.why.CertWhy.TheVariants as why
-use Rattle.uz_cert_laws.proofs.Tests.{and_true, both_true, and_false, not_true, fine_is, passed, failed, so, else_so, le_is, is_le, is_lt}
+use Rattle.uz_cert_laws.proofs.Tests.{some_not, and_true, both_true, and_false, not_true, fine_is, passed, failed, so, else_so, le_is, is_le, is_lt}
 use Rattle.uz_cert_laws.proofs.Tests.{not_le, not_lt, number_not, not_number, number_is}
 
 -- a number of a word, as it is asked
@@ -165,10 +165,7 @@ slope_only limit (c ∷ cs) z h e = by_sign (eqb c 45) refl e
 
 signed_some : (t : Bool) (n : ℕ) → signed_or t (Some (n + 1)) ≡ Ok (negsuc n)
 signed_some t n =
-    ap (λ m. signed_or t (Some m)) (add-one n) ∙ else_so (eqb (suc n) 0) (Err why.Number) (Ok (negsuc n)) (not_number (suc n) 0 (some n))
-  where
-    some : (n : ℕ) → suc n ≢ 0
-    some n e = omega arith
+    ap (λ m. signed_or t (Some m)) (add-one n) ∙ else_so (eqb (suc n) 0) (Err why.Number) (Ok (negsuc n)) (not_number (suc n) 0 (some_not n))
 
 pub slope_so : (limit : ℕ) (z : ℤ) → limit ≤ 2 ^ 32 → magnitude z < limit → slope_of limit (signed_word z) ≡ Ok z
 unfolding slope_of

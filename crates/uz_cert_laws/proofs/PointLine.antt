@@ -20,7 +20,7 @@ use Rattle.uz_cert_lines.specs.declared.lines.PointPlace.{PointPlace}
 use Rattle.uz_cert_lines.specs.declared.lines.ParsedLine.TheVariants as parsed
 use Rattle.uz_cert_writer.specs.Spelling.{truth_word, point_items, point_words}
 use Rattle.uz_cert_laws.specs.LineWords.{line, PlacesAre}
-use Rattle.uz_cert_laws.proofs.Tests.{both_of, fine, true_not, number_is}
+use Rattle.uz_cert_laws.proofs.Tests.{some_not, both_of, fine, true_not, number_is}
 use Rattle.uz_cert_lines.specs.Named.{values_of, point_of}
 use Rattle.uz_cert_laws.proofs.Named.{Say}
 use Rattle.uz_cert_laws.specs.Spells.{word_at, Parts, says, spells}
@@ -272,10 +272,7 @@ kind_read (suc (suc (suc n))) e = absurd cc
 
 no_slope : (z : ℤ) → magnitude z ≡ 0 → z ≡ pos 0
 no_slope (pos n) e = ap (λ m. pos m) e
-no_slope (negsuc n) e = absurd (some n e)
-  where
-    some : (n : ℕ) → suc n ≡ 0 → ⊥
-    some n e = omega arith
+no_slope (negsuc n) e = absurd (some_not n e)
 
 -- a truth by its number
 truth_is : (n : ℕ) → n < 2 → decimal n ≡ truth_word (eqb n 1)

@@ -15,7 +15,7 @@ use Rattle.uz_schedule.specs.declared.facts.PairFact.TheVariants.{Loop as LoopPa
 use Rattle.uz_schedule.specs.declared.facts.Bit.TheVariants.{Old as OldBit}
 use Rattle.uz_cert_lines.specs.declared.values.Raw.TheVariants as raw
 use Rattle.uz_cert_lines.specs.declared.why.CertWhy.TheVariants as why
-use Rattle.uz_cert_laws.proofs.Named.{Say, usuals, listed_other, listed_read}
+use Rattle.uz_cert_laws.proofs.Named.{or_second, Say, usuals, listed_other, listed_read}
 use Rattle.uz_cert_laws.proofs.Tests.{and_true, or_false, fine, fault_not, true_not, refuted, neither, then, le_is, number_is, word_is, is_lt}
 use Rattle.uz_cert_laws.proofs.Tests.{is_not_lt}
 use Rattle.uz_cert_laws.proofs.Facts.{FactIn, PairIn, BitIn, raw_by, pair_raw, pair_so}
@@ -111,10 +111,6 @@ names_said kind R (c ∷ z ∷ bs) later f m = by_tests (is_default_flag kind c)
     by_tests false u e = refl
 
 -- the flag Z
-
-or_second : (a b : Bool) → b ≡ true → (a || b) ≡ true
-or_second true b e = refl
-or_second false b e = e
 
 flag_z_so : (shape : Shape) (f : Facts) (x : Bit) (later : List (List ℕ)) → any_names later ≡ false → is_flag_z shape f (flag_word x)
     later ≡ true

@@ -1,5 +1,5 @@
 -- Tests, and what their answers tell.
-use Rattle.uz_cert_laws.proofs.Common.{◌≡◌, ◌⊎◌, inl, inr, ℕ, ◌<◌, ◌≤◌, ◌≢◌, Bool, true, false, cond, not, ◌&&◌, ◌||◌, eqb, leb, ltb, List}
+use Rattle.uz_cert_laws.proofs.Common.{suc, ◌≡◌, ◌⊎◌, inl, inr, ℕ, ◌<◌, ◌≤◌, ◌≢◌, Bool, true, false, cond, not, ◌&&◌, ◌||◌, eqb, leb, ltb, List}
 use Rattle.uz_cert_laws.proofs.Common.{bytes_eq, refl, ◌∙◌, ap, arith, Result, Ok, Err, nat_tests, ◌>>=◌, CertWhy}
 use Rattle.std.proofs.lemmas.Slice.Eq.{bytes_eq-Decides}
 
@@ -43,6 +43,9 @@ same_word w = (bytes_eq-Decides w w).1 refl
 
 pub same_number : (n : ℕ) → eqb n n ≡ true
 same_number n = grind (arith, nat_tests)
+
+pub some_not : (n : ℕ) → suc n ≢ 0
+some_not n e = omega arith
 
 pub number_is : (a b : ℕ) → eqb a b ≡ true → a ≡ b
 number_is a b e = grind (arith, nat_tests)

@@ -14,6 +14,12 @@ use Rattle.uz_cert_lines.specs.declared.why.CertWhy.{CertWhy}
 abbrev answer : ParsedLine → Result ParsedLine CertWhy
 answer said = Ok said
 
+ok_same : (a b : ParsedLine) → answer a ≡ answer b → a ≡ b
+ok_same a b e = cc
+
+ok_not_err : (a : ParsedLine) (v : CertWhy) → answer a ≡ Err v → ⊥
+ok_not_err a v e = cc
+
 -- the next word
 
 first_is : {A : Type 0} (ended : Bool) (judge : List ℕ → Result A CertWhy) (list : List (List ℕ)) (a : A)
@@ -70,17 +76,10 @@ read_allowed (spans cells form) words said e =
     (m.0, m.1, read_allowed (form m.0.0) m.0.1 said m.2)
 read_allowed (items shape cells say) words said e =
     let m = bind_ok (read_items shape cells words) (λ facts. Ok (say facts)) said e in
-    let same : say m.0 ≡ said = ok_same (say m.0) said m.2 in
-    (m.0, items_say shape cells words m.0 m.1, sym same)
-  where
-    ok_same : (a b : ParsedLine) → answer a ≡ answer b → a ≡ b
-    ok_same a b e = cc
+    (m.0, items_say shape cells words m.0 m.1, sym (ok_same (say m.0) said m.2))
 read_allowed (finish says) words said e =
     let m = bind_ok (end_of words.ended words.list) (λ n. Ok says) said e in
     (end_zero words.ended words.list m.0 m.1, sym (ok_same says said m.2))
-  where
-    ok_same : (a b : ParsedLine) → answer a ≡ answer b → a ≡ b
-    ok_same a b e = cc
 
 pub allowed_read : (form : LineForm) (words : Words) (said : ParsedLine) → Allows form words said → reads form words ≡ Ok said
 allowed_read (fixed wanted form) words said h =
@@ -134,14 +133,8 @@ refused_faulty (items shape cells say) words w e =
       | inl m ↦ items_fail shape cells words w m
       | inr m ↦ absurd (ok_not_err (say m.0) w m.2)
     ]
-  where
-    ok_not_err : (a : ParsedLine) (v : CertWhy) → Ok a ≡ Err v → ⊥
-    ok_not_err a v e = cc
 refused_faulty (finish says) words w e =
     elim (bind_err (end_of words.ended words.list) (λ n. Ok says) w e) [ inl m ↦ m | inr m ↦ absurd (ok_not_err says w m.2) ]
-  where
-    ok_not_err : (a : ParsedLine) (v : CertWhy) → Ok a ≡ Err v → ⊥
-    ok_not_err a v e = cc
 
 pub faulty_refused : (form : LineForm) (words : Words) (w : CertWhy) → HasFirstFault form words w → reads form words ≡ Err w
 faulty_refused (fixed wanted form) words w h =
@@ -188,9 +181,6 @@ decided form words = by_answer (reads form words) refl
 
 pub one_said : (form : LineForm) (words : Words) (a b : ParsedLine) → Allows form words a → Allows form words b → a ≡ b
 one_said form words a b p q = ok_same a b (sym (allowed_read form words a p) ∙ allowed_read form words b q)
-  where
-    ok_same : (a b : ParsedLine) → answer a ≡ answer b → a ≡ b
-    ok_same a b e = cc
 
 pub one_fault : (form : LineForm) (words : Words) (v w : CertWhy) → HasFirstFault form words v → HasFirstFault form words w → v ≡ w
 one_fault form words v w p q = err_same v w (sym (faulty_refused form words v p) ∙ faulty_refused form words w q)
@@ -200,6 +190,3 @@ one_fault form words v w p q = err_same v w (sym (faulty_refused form words v p)
 
 pub not_both : (form : LineForm) (words : Words) (said : ParsedLine) (w : CertWhy) → Allows form words said → HasFirstFault form words w → ⊥
 not_both form words said w p q = ok_not_err said w (sym (allowed_read form words said p) ∙ faulty_refused form words w q)
-  where
-    ok_not_err : (a : ParsedLine) (v : CertWhy) → Ok a ≡ Err v → ⊥
-    ok_not_err a v e = cc
