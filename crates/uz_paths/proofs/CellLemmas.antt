@@ -3,6 +3,7 @@ use Rattle.std.proofs.Common.{◌≡◌, ◌≢◌, refl, arith, ℕ, suc, ◌+�
 use Rattle.std.specs.Prelude.{Some, slice_get, ⊤, insert, nat_lt, nat_le, ◌==◌, ◌&&◌, ◌||◌}
 use Rattle.std.specs.List.{AllByRecursion}
 use Rattle.std.proofs.lemmas.Bool.Decides.{nat_tests}
+use Rattle.std.proofs.lemmas.Bool.{and_parts, or_parts}
 use Rattle.avr_asm.specs.declared.output.Hint.{Hint}
 use Rattle.avr_asm.specs.declared.output.Hint.TheVariants.{Cell}
 use Rattle.uz_schedule.specs.Limits.{rises_from}
@@ -10,14 +11,6 @@ use Rattle.uz_schedule.specs.declared.kinds.Kind.{Kind}
 use Rattle.uz_paths.specs.declared.cells.Tracked.{Tracked}
 use Rattle.uz_paths.specs.Words.{has_cell}
 use Rattle.uz_paths.specs.Cells.{owner_of, place_in, with_cell, with_hint, with_cells}
-
-both : (a b : Bool) → (a && b) ≡ true → (a ≡ true) × (b ≡ true)
-both true b e = (refl, e)
-both false b e = absurd (cc)
-
-neither : (a b : Bool) → (a || b) ≡ false → (a ≡ false) × (b ≡ false)
-neither false b e = (refl, e)
-neither true b e = absurd (cc)
 
 -- One more cell
 
@@ -39,11 +32,11 @@ rises_inserted least t [] rises low apart = rises_one least t.cell.at low
     rises_one : (a b : ℕ) → a ≤ b → (nat_le a b && true) ≡ true
     rises_one a b h = grind (arith, nat_tests)
 rises_inserted least t (u ∷ us) rises low apart = by_test (nat_lt t.cell.at u.cell.at) refl
-    (λ above. rises_inserted (u.cell.at + 1) t us (both (nat_le least u.cell.at) (rises_from (u.cell.at + 1) (addresses us)) rises).1 above
+    (λ above. rises_inserted (u.cell.at + 1) t us (and_parts (nat_le least u.cell.at) (rises_from (u.cell.at + 1) (addresses us)) rises).1 above
     apart.1)
   where
     parts : (nat_le least u.cell.at ≡ true) × (rises_from (u.cell.at + 1) (addresses us) ≡ true)
-    parts = both (nat_le least u.cell.at) (rises_from (u.cell.at + 1) (addresses us)) rises
+    parts = and_parts (nat_le least u.cell.at) (rises_from (u.cell.at + 1) (addresses us)) rises
 
     joined : (a b c d : Bool) → a ≡ true → b ≡ true → (a && b) ≡ true
     joined a b c d e f = rw (e, f) refl
@@ -118,11 +111,11 @@ rises_with : (h : Hint) (hints : List Hint) (ts : List Tracked) → LoneHead h h
 rises_with (Cell at owner lo hi first) hints ts l f r = (
   rises_inserted 0 (tracked_cell at owner lo hi first) ts r (omega arith) (each_map _ _ (apart) ts f),
   each_inserted (λ u. has_cell u.cell.at hints ≡ false) (tracked_cell at owner lo hi first) ts l
-      (each_map _ _ (λ u h. (neither (at == u.cell.at) (has_cell u.cell.at hints) h).1) ts f),
+      (each_map _ _ (λ u h. (or_parts (at == u.cell.at) (has_cell u.cell.at hints) h).1) ts f),
 )
   where
     apart : (u : Tracked) → ((at == u.cell.at) || has_cell u.cell.at hints) ≡ false → u.cell.at ≢ at
-    apart u h = let e : (at == u.cell.at) ≡ false = (neither (at == u.cell.at) (has_cell u.cell.at hints) h).0 in
+    apart u h = let e : (at == u.cell.at) ≡ false = (or_parts (at == u.cell.at) (has_cell u.cell.at hints) h).0 in
         grind (arith, nat_tests, e)
 rises_with other hints ts l f r = (r, f)
 

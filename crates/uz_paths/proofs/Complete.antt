@@ -2,7 +2,7 @@
 use Rattle.std.proofs.Common.{◌≡◌, ◌≢◌, ◌∙◌, sym, ap, refl, arith, inl, inr, ⊎_elim, ◌⊎◌, ℕ, zero, suc, ◌+◌, ◌-◌, ◌*◌, ◌<◌, ◌≤◌, Bool, true}
 use Rattle.std.proofs.Common.{false, List, [], ◌∷◌, map, length, subst, if◌then◌else◌}
 use Rattle.std.specs.Prelude.{Contains, Some, ◌&&◌, ◌||◌, ◌==◌, nat_eq, nat_le, slice_get, unwrap_or}
-use Rattle.std.proofs.lemmas.Bool.{cases_eq, cases_lt}
+use Rattle.std.proofs.lemmas.Bool.{cases_eq, cases_lt, or_right, and_parts}
 use Rattle.std.proofs.lemmas.Bool.Decides.{nat_tests}
 use Rattle.std.proofs.lemmas.Option.{get_or_from_slice_get, slice_get-get_or, slice_get_within}
 use Rattle.uz_schedule.proofs.Starts.{length_within}
@@ -40,7 +40,7 @@ use Rattle.uz_search.specs.Made as made_of
 use Rattle.uz_search.specs.Accepting.{ArePointsOf, EndedAccepts, IsRestOf, StandsFor}
 use Rattle.uz_paths.specs.declared.certificate.Parts.{Parts}
 use Rattle.uz_paths.specs.Certificate.{ArePartsOf, IsEntry, ReturnsFromMain, cert_of}
-use Rattle.uz_paths.specs.Linked.{AreEntered, NamesFit, NamesResults, first_after}
+use Rattle.uz_paths.specs.Linked.{AreEntered, SuccessorsFit, LeadsToResults, first_after}
 use Rattle.uz_paths.specs.Numbers.{Numbered}
 use Rattle.uz_join.specs.Points.{IsOrdered, point_of, vector_after}
 use Rattle.uz_paths.specs.Rests.{rests_of}
@@ -48,7 +48,7 @@ use Rattle.uz_paths.proofs.Counting.{at_least, sum_few}
 use Rattle.uz_paths.proofs.MadeSchedule.{EventByLine, is_fit, is_made}
 use Rattle.uz_paths.proofs.NumberLemmas.{numbers_below}
 use Rattle.uz_paths.proofs.RestLemmas.{all_in, few_of, lines_of_rests, of_return, one_rest, rest_among, rest_of_line, rests_rise}
-use Rattle.uz_paths.proofs.SameInstance.{both, own_instance, vector_instance}
+use Rattle.uz_paths.proofs.SameInstance.{own_instance, vector_instance}
 use Rattle.uz_paths.proofs.WithinPoints.{all_of, own_fits, vector_fits}
 
 -- what is known of an ended search, and of schedules
@@ -82,7 +82,7 @@ le_of : (a b : ℕ) → nat_le a b ≡ true → a ≤ b
 le_of a b e = grind (arith, nat_tests)
 
 line_of : PlaceTells → (a b : Instance) → inside a b ≡ true → a.line ≡ b.line
-line_of tells a b h = (tells a b (both (same_place a b) (known_inside a b) h).0).line
+line_of tells a b h = (tells a b (and_parts (same_place a b) (known_inside a b) h).0).line
 
 inside_self : PlaceHolds → KnownInItself → (x : Instance) → inside x x ≡ true
 inside_self holds itself x = λ i. holds x x (place_of_itself x) i && itself x i
@@ -94,12 +94,8 @@ unfolding any_from
 any_true test k zero j le less h = absurd (omega arith)
 any_true test k (suc n) j le less h = ⊎_elim
     (λ (same : k ≡ j). ap (λ b. b || any_from test (suc k) n) (ap test same ∙ h))
-    (λ (other : k ≢ j). or_later (test k) (any_from test (suc k) n) (any_true test (suc k) n j (omega arith) (omega arith) h))
+    (λ (other : k ≢ j). or_right (test k) (any_from test (suc k) n) (any_true test (suc k) n j (omega arith) (omega arith) h))
     (cases_eq k j)
-  where
-    or_later : (a b : Bool) → b ≡ true → (a || b) ≡ true
-    or_later true b e = refl
-    or_later false b e = e
 
 -- at one of the counts of a point's box this instance is known
 pub record IsKnownAt (cert : Cert) (n : ℕ) (x : Instance) : Type 0 where
@@ -121,11 +117,7 @@ any_named : (cert : Cert) (ids : List ℕ) (i n : ℕ) (y : Instance) → slice_
     → lies_in_any cert ids y ≡ true
 any_named cert [] i n y at h = absurd (cc)
 any_named cert (id ∷ ids) zero n y at h = ap (λ b. b || lies_in_any cert ids y) (ap (λ m. lies_in_point cert m y) (some_is id n at) ∙ h)
-any_named cert (id ∷ ids) (suc i) n y at h = or_later (lies_in_point cert id y) (lies_in_any cert ids y) (any_named cert ids i n y at h)
-  where
-    or_later : (a b : Bool) → b ≡ true → (a || b) ≡ true
-    or_later true b e = refl
-    or_later false b e = e
+any_named cert (id ∷ ids) (suc i) n y at h = or_right (lies_in_point cert id y) (lies_in_any cert ids y) (any_named cert ids i n y at h)
 
 -- Lines
 
@@ -298,7 +290,7 @@ module _ (image : Flash) (p : Program) (entry : Entry) (found : Found) (parts : 
             is = own_instance cert n x own.next own.is (limits x (i, node)).pair_count (clock_in x (i, node)) (level x (i, node));
           }
 
-  succeeded : (x : Instance) (ids : List ℕ) → NamesResults image p found.nodes.keys of.numbers x ids → HasSuccessors image p cert ids x
+  succeeded : (x : Instance) (ids : List ℕ) → LeadsToResults image p found.nodes.keys of.numbers x ids → HasSuccessors image p cert ids x
   succeeded x ids named result y after on there =
       let h = named result y after on there in
       any_named cert ids h.named.0 h.number y h.named.1
@@ -356,9 +348,9 @@ module _ (image : Flash) (p : Program) (entry : Entry) (found : Found) (parts : 
       vector v =
           let inside : is_in_box (vector_after response (order_of_program p) v.rest v.ids) l c ≡ true =
           subst (λ (z : Point). is_in_box z l c ≡ true) v.is box in
-          let parts_of_box = both (nat_le (next v.rest.line) l && nat_le l (next v.rest.line)) (nat_le 0 c && nat_le c 3) inside in
-          let lines = both (nat_le (next v.rest.line) l) (nat_le l (next v.rest.line)) parts_of_box.0 in
-          let counts = both (nat_le 0 c) (nat_le c 3) parts_of_box.1 in
+          let parts_of_box = and_parts (nat_le (next v.rest.line) l && nat_le l (next v.rest.line)) (nat_le 0 c && nat_le c 3) inside in
+          let lines = and_parts (nat_le (next v.rest.line) l) (nat_le l (next v.rest.line)) parts_of_box.0 in
+          let counts = and_parts (nat_le 0 c) (nat_le c 3) parts_of_box.1 in
           let low = le_of (next v.rest.line) l lines.0 in
           let high = le_of l (next v.rest.line) lines.1 in
           let same : next v.rest.line ≡ l = omega arith in
@@ -376,9 +368,9 @@ module _ (image : Flash) (p : Program) (entry : Entry) (found : Found) (parts : 
       own : IsOwn id point → StandsFor image p found cert id l c point
       own o =
           let inside : is_in_box (point_of o.x o.ids) l c ≡ true = subst (λ (z : Point). is_in_box z l c ≡ true) o.is box in
-          let parts_of_box = both (nat_le o.x.line l && nat_le l o.x.line) (nat_le 0 c && nat_le c 0) inside in
-          let lines = both (nat_le o.x.line l) (nat_le l o.x.line) parts_of_box.0 in
-          let counts = both (nat_le 0 c) (nat_le c 0) parts_of_box.1 in
+          let parts_of_box = and_parts (nat_le o.x.line l && nat_le l o.x.line) (nat_le 0 c && nat_le c 0) inside in
+          let lines = and_parts (nat_le o.x.line l) (nat_le l o.x.line) parts_of_box.0 in
+          let counts = and_parts (nat_le 0 c) (nat_le c 0) parts_of_box.1 in
           let low = le_of o.x.line l lines.0 in
           let high = le_of l o.x.line lines.1 in
           let zero_count = le_of c 0 counts.1 in
@@ -506,7 +498,7 @@ module _ (image : Flash) (p : Program) (entry : Entry) (found : Found) (parts : 
       vector : IsVector id point → PointFits p.head (lines_of p) (length parts.points.items) point
       vector v =
           let small = few_clocks p.head.irq in
-          let names = subst (λ (z : Point). NamesFit (length parts.points.items) z.next.items) v.is (of.points.names id point at) in
+          let names = subst (λ (z : Point). SuccessorsFit (length parts.points.items) z.next.items) v.is (of.points.names id point at) in
           subst (PointFits p.head (lines_of p) (length parts.points.items)) (sym v.is)
           (vector_fits p (length parts.points.items) v.rest.cells.items (next v.rest.line) response (last v.rest.line) v.ids
           (next_below (lines_of p) v.rest.line (rest_line id v.rest v.at)) (omega arith)
@@ -516,7 +508,7 @@ module _ (image : Flash) (p : Program) (entry : Entry) (found : Found) (parts : 
       own : IsOwn id point → PointFits p.head (lines_of p) (length parts.points.items) point
       own o =
           let node : Among found.nodes.keys o.x = (o.place, o.node) in
-          let names = subst (λ (z : Point). NamesFit (length parts.points.items) z.next.items) o.is (of.points.names id point at) in
+          let names = subst (λ (z : Point). SuccessorsFit (length parts.points.items) z.next.items) o.is (of.points.names id point at) in
           subst (PointFits p.head (lines_of p) (length parts.points.items)) (sym o.is) (own_fits p (length parts.points.items) o.x o.ids
           (stand o.x node) (limits o.x node) (let inside = clock_in o.x node in let short =
           (length_within parts.schedule schedule_fits o.x.line).1 in omega arith) o.ordered names)

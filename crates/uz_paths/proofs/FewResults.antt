@@ -4,6 +4,7 @@ use Rattle.std.proofs.Common.{length, map, Option, Some, None, Ok, Err, subst}
 use Rattle.std.specs.Prelude.{◌||◌, nat_le, nat_lt}
 use Rattle.std.proofs.lemmas.Bool.Decides.{nat_tests}
 use Rattle.std.proofs.lemmas.List.{length-map}
+use Rattle.std.proofs.lemmas.Bool.{or_parts}
 use Rattle.avr_table.specs.declared.Outcome.{Outcome}
 use Rattle.avr_table.specs.declared.Outcome.TheVariants as outcome
 use Rattle.avr_table.specs.Rows.{clocks_of, words_of}
@@ -103,13 +104,9 @@ pub few_results : (image : Flash) (p : Program) (x : Instance) → HasFew image 
 few_results image p x = few_by image p x 16 (omega arith) aims
   where
     aims : AimsFew 16 x
-    aims h = let low = (either_false (nat_le (16 + (pair_range x 30).lo) (pair_range x 30).hi) (nat_lt 0x7FFF (pair_range x 30).hi) h).0 in
+    aims h = let low = (or_parts (nat_le (16 + (pair_range x 30).lo) (pair_range x 30).hi) (nat_lt 0x7FFF (pair_range x 30).hi) h).0 in
         let less : (pair_range x 30).hi < 16 + (pair_range x 30).lo = grind (arith, nat_tests) in
         omega arith
-      where
-        either_false : (a b : Bool) → (a || b) ≡ false → (a ≡ false) × (b ≡ false)
-        either_false true b e = absurd (cc)
-        either_false false b e = (refl, e)
 
 -- of the handler's first states nothing is known of Z, so that an indirect jump is refused
 pub few_entries : (image : Flash) (p : Program) (cells : List Ends) (line clock level top : ℕ) → HasFew image p

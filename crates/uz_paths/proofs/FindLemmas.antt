@@ -3,7 +3,7 @@ use Rattle.std.proofs.Common.{◌≡◌, ◌⊎◌, ◌∙◌, inl, inr, sym, ap
 use Rattle.std.specs.Prelude.{None, Option, Some, Result, Ok, Err, IfOk, IfErr, IfSome, IsOk}
 use Rattle.std.specs.Ordering.{nat_cmp}
 use Rattle.std.specs.FinMap.{FinMap}
-use Rattle.std.proofs.lemmas.Option.{slice_get_within}
+use Rattle.std.proofs.lemmas.Option.{slice_get_within, same_Some}
 use Rattle.avr_asm.specs.declared.output.Hint.{Hint as SourceHint}
 use Rattle.avr_asm.specs.declared.output.Hint.TheVariants.{Fact}
 use Rattle.uz_schedule.specs.declared.kinds.Response.{Response}
@@ -57,14 +57,11 @@ licensed image irq hints p (Hint index) of shows = absurd shows
 licensed image irq hints p (NoRest count) of shows = record { program = p; of = of; shows = shows }
 licensed image irq hints p Memory of shows = tt
 
-some_is : {A : Type 0} (a b : A) → Some a ≡ Some b → a ≡ b
-some_is a b e = cc
-
 pub asked : (image : FinMap nat_cmp ℕ) (irq : Response) (hints : List SourceHint) (r : Reading) (p : Program) (entry : Entry) (cert : Cert)
     → IsReading image irq hints r → IsProgramOf irq hints p → p.head ≡ r.head
     → entry ≡ entry_with r.registers r.head r.start 0 → IsFoundBy image p entry cert → IsAsked image irq hints cert
 asked image irq hints r p entry cert is of head e found =
-    let start : r.start ≡ of.start = some_is r.start of.start (sym is.start ∙ of.starts_at) in
+    let start : r.start ≡ of.start = same_Some r.start of.start (sym is.start ∙ of.starts_at) in
     let same : entry ≡ start_entry hints p.head of.start 0 =
     e ∙ (ap (λ rs. entry_with rs r.head r.start 0) is.registers ∙ (ap (λ h. start_entry hints h r.start 0) (sym head)
     ∙ ap (λ s. start_entry hints p.head s 0) start)) in

@@ -6,6 +6,7 @@ use Rattle.std.specs.Ordering.{nat_cmp}
 use Rattle.std.specs.FinMap.{FinMap}
 use Rattle.std.proofs.lemmas.Bool.Decides.{nat_tests}
 use Rattle.std.proofs.lemmas.Option.{slice_get_within}
+use Rattle.std.proofs.lemmas.Bool.{or_parts}
 use Rattle.avr_asm.specs.declared.output.Hint.{Hint}
 use Rattle.avr_asm.specs.declared.output.Hint.TheVariants.{Half}
 use Rattle.uz_schedule.specs.Schedule.{scanline, half_line}
@@ -15,10 +16,6 @@ use Rattle.uz_paths.specs.declared.reading.Reading.{Reading}
 use Rattle.uz_paths.specs.Words.{halves, halves_some, is_half, has_half, length_by, first_lines}
 use Rattle.uz_paths.specs.Faults.{HalfFine, HalvesFit}
 use Rattle.uz_paths.specs.Reading.{IsReading, ReadingFits, LengthsFit}
-
-neither : (a b : Bool) → (a || b) ≡ false → (a ≡ false) × (b ≡ false)
-neither true b h = absurd (true≢false h)
-neither false b h = (refl, h)
 
 both_false : (a b : Bool) → a ≡ false → b ≡ false → (a || b) ≡ false
 both_false true b h k = absurd (true≢false h)
@@ -48,7 +45,7 @@ pub none_halved : (from to : ℕ) (hints : List Hint) → has_half from to hints
     → is_half line hints ≡ false
 none_halved from to [] none line low high = refl
 none_halved from to (h ∷ hints) none line low high =
-    let no = neither (halves_some from to h) (has_half from to hints) none in
+    let no = or_parts (halves_some from to h) (has_half from to hints) none in
     both_false (halves line h) (is_half line hints) (one_halved from to h no.0 line low high)
     (none_halved from to hints no.1 line low high)
 
@@ -56,8 +53,8 @@ pub none_shared : (from to : ℕ) (hints : List Hint) → ((line : ℕ) → from
     → has_half from to hints ≡ false
 none_shared from to [] none = refl
 none_shared from to (h ∷ hints) none = both_false (halves_some from to h) (has_half from to hints)
-    (one_shared from to h (λ line low high. (neither (halves line h) (is_half line hints) (none line low high)).0))
-    (none_shared from to hints (λ line low high. (neither (halves line h) (is_half line hints) (none line low high)).1))
+    (one_shared from to h (λ line low high. (or_parts (halves line h) (is_half line hints) (none line low high)).0))
+    (none_shared from to hints (λ line low high. (or_parts (halves line h) (is_half line hints) (none line low high)).1))
 
 -- Where hints aren't at fault
 

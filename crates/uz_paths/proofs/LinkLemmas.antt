@@ -4,12 +4,13 @@ use Rattle.std.proofs.Common.{[], ◌∷◌, ◌++◌, length, length-append, ta
 use Rattle.std.specs.Prelude.{Option, Some, None, slice_get, ◌⊎◌, ◌&&◌, not, nat_eq, nat_lt, nat_le, insert, position, All, if◌then◌else◌}
 use Rattle.std.specs.List.{position_or_len}
 use Rattle.std.proofs.Math.Seq.{take-suc}
-use Rattle.std.proofs.lemmas.Bool.{cases_eq}
+use Rattle.std.proofs.lemmas.Bool.{cases_eq, and_parts}
 use Rattle.std.proofs.lemmas.Bool.Decides.{nat_tests}
 use Rattle.std.proofs.lemmas.List.Elements.{All-cons, All-nil}
 use Rattle.std.proofs.lemmas.List.Edits.{length-insert}
 use Rattle.std.proofs.lemmas.List.Sums.{fails_before_first, passes_at_first}
-use Rattle.std.proofs.lemmas.Option.{get_or_from_slice_get, slice_get_within, slice_get-get_or}
+use Rattle.std.proofs.lemmas.Option.{get_or_from_slice_get, slice_get_within, slice_get-get_or, same_Some}
+use Rattle.std.proofs.lemmas.List.{take_all, length-take-le}
 use Rattle.uz_schedule.specs.Lines.{Lines}
 use Rattle.uz_schedule.specs.Limits.{rises_from}
 use Rattle.uz_schedule.specs.declared.lines.Schedule.{Schedule}
@@ -20,7 +21,7 @@ use Rattle.uz_search.specs.declared.program.Program.{Program}
 use Rattle.uz_schedule.specs.Schedule.{response_clocks}
 use Rattle.uz_search.specs.Following.{Among, Flash, order_of_program}
 use Rattle.uz_search.specs.Widened.{widened}
-use Rattle.uz_paths.specs.Linked.{IsVectorAt, IsPointAt, HasName, NamesFit, NamesMore, NamesResults, NamesEntries, NamesVectors, NamesOwn}
+use Rattle.uz_paths.specs.Linked.{IsVectorAt, IsPointAt, HasSuccessor, SuccessorsFit, AddsSuccessors, LeadsToResults, LeadsToEntries, VectorsLead, NodesLead}
 use Rattle.uz_paths.specs.Linked.{ArePoints, HaveNumbers, Renamed}
 use Rattle.uz_paths.specs.Plan.{AreMade}
 use Rattle.uz_join.specs.Points.{AreOrdered, point_of, vector_after}
@@ -45,10 +46,6 @@ all_inserted count n (suc place) (m ∷ ms) less all =
     All-cons (λ id. id < count) m (insert ms place n) (all 0 m (omega arith))
     (all_inserted count n place ms less (λ k d within. all (suc k) d (omega arith)))
 
-both : (a b : Bool) → (a && b) ≡ true → (a ≡ true) × (b ≡ true)
-both true b e = (refl, e)
-both false b e = absurd (cc)
-
 -- in its place, where it isn't there
 rises_inserted : (least n : ℕ) (ms : List ℕ) → rises_from least ms ≡ true → least ≤ n → is_number n (slice_get ms (count_below n ms))
     ≡ false → rises_from least (insert ms (count_below n ms) n) ≡ true
@@ -57,10 +54,10 @@ rises_inserted least n [] rise low apart = rises_one least n low
     rises_one : (a b : ℕ) → a ≤ b → (nat_le a b && true) ≡ true
     rises_one a b h = grind (arith, nat_tests)
 rises_inserted least n (m ∷ ms) rise low apart = by_test (nat_lt m n) refl apart
-    (λ above absent. rises_inserted (m + 1) n ms (both (nat_le least m) (rises_from (m + 1) ms) rise).1 above absent)
+    (λ above absent. rises_inserted (m + 1) n ms (and_parts (nat_le least m) (rises_from (m + 1) ms) rise).1 above absent)
   where
     parts : (nat_le least m ≡ true) × (rises_from (m + 1) ms ≡ true)
-    parts = both (nat_le least m) (rises_from (m + 1) ms) rise
+    parts = and_parts (nat_le least m) (rises_from (m + 1) ms) rise
 
     first_low : nat_le least n ≡ true
     first_low = grind (arith, nat_tests)
@@ -76,9 +73,6 @@ rises_inserted least n (m ∷ ms) rise low apart = by_test (nat_lt m n) refl apa
         rw (first_low, next) parts.1
 
 -- Names
-
-some_is : {A : Type 0} (a b : A) → Some a ≡ Some b → a ≡ b
-some_is a b e = cc
 
 is_number_there : (n : ℕ) (o : Option ℕ) → is_number n o ≡ true → o ≡ Some n
 is_number_there n None e = absurd (cc)
@@ -104,7 +98,7 @@ place_some test xs x i is same = by (nat_lt (position_or_len test xs) (length xs
         → slice_get xs i ≡ Some x
     by true e h =
         let within : position_or_len test xs < length xs = grind (arith, nat_tests, e) in
-        let place : i ≡ position_or_len test xs = some_is i (position_or_len test xs) h in
+        let place : i ≡ position_or_len test xs = same_Some i (position_or_len test xs) h in
         ap (slice_get xs) place ∙ (slice_get-get_or xs (position_or_len test xs) x within ∙ ap (λ y. Some y)
         (sym (same (get_or xs (position_or_len test xs) x) (passes_at_first test xs x within))))
     by false e h = absurd (cc)
@@ -123,12 +117,12 @@ place_none test xs x i is passes at = by (nat_lt (position_or_len test xs) (leng
         absurd (cc)
 
 -- one more number
-pub one_named : (count n : ℕ) (ms : List ℕ) → n < count → length ms < 16 → NamesMore count 1 ms (with_number n ms)
+pub one_successor : (count n : ℕ) (ms : List ℕ) → n < count → length ms < 16 → AddsSuccessors count 1 ms (with_number n ms)
     × Among (with_number n ms) n
-one_named count n ms less room = by_tests (is_number n (slice_get ms (count_below n ms))) (nat_lt (length ms) 16) refl refl
+one_successor count n ms less room = by_tests (is_number n (slice_get ms (count_below n ms))) (nat_lt (length ms) 16) refl refl
   where
     by_tests : (a b : Bool) → is_number n (slice_get ms (count_below n ms)) ≡ a → nat_lt (length ms) 16 ≡ b
-        → NamesMore count 1 ms (cond (not a && b) (insert ms (count_below n ms) n) ms)
+        → AddsSuccessors count 1 ms (cond (not a && b) (insert ms (count_below n ms) n) ms)
         × Among (cond (not a && b) (insert ms (count_below n ms) n) ms) n
     by_tests true b e f = (
       record { kept = λ m h. h; few = omega arith; fits = λ h. h },
@@ -149,24 +143,24 @@ one_named count n ms less room = by_tests (is_number n (slice_get ms (count_belo
           (count_below n ms, inserted_there ms (count_below n ms) n (below_length n ms)),
         )
 
-pub none_more : (count most : ℕ) (ms : List ℕ) → NamesMore count most ms ms
-none_more count most ms = record { kept = λ n h. h; few = omega arith; fits = λ h. h }
+pub none_added : (count most : ℕ) (ms : List ℕ) → AddsSuccessors count most ms ms
+none_added count most ms = record { kept = λ n h. h; few = omega arith; fits = λ h. h }
 
-pub names_on : (count a b most : ℕ) (ms ns os : List ℕ) → NamesMore count a ms ns → NamesMore count b ns os → a + b ≤ most → NamesMore count
+pub added_on : (count a b most : ℕ) (ms ns os : List ℕ) → AddsSuccessors count a ms ns → AddsSuccessors count b ns os → a + b ≤ most → AddsSuccessors count
     most ms os
-names_on count a b most ms ns os h k le = record {
+added_on count a b most ms ns os h k le = record {
   kept = λ n t. k.kept n (h.kept n t);
   few = let x = h.few in let y = k.few in omega arith;
   fits = λ f. k.fits (h.fits f);
 }
 
-pub names_within : (count most bound : ℕ) (ms ns : List ℕ) → NamesMore count most ms ns → most ≤ bound → NamesMore count bound ms ns
-names_within count most bound ms ns h le = record { kept = h.kept; few = (let few = h.few in omega arith); fits = h.fits }
+pub added_within : (count most bound : ℕ) (ms ns : List ℕ) → AddsSuccessors count most ms ns → most ≤ bound → AddsSuccessors count bound ms ns
+added_within count most bound ms ns h le = record { kept = h.kept; few = (let few = h.few in omega arith); fits = h.fits }
 
 -- a name stays
-pub still_named : (nodes : List Instance) (numbers : List ℕ) (y : Instance) (ms ns : List ℕ) → ((n : ℕ) → Among ms n → Among ns n)
-    → HasName nodes numbers y ms → HasName nodes numbers y ns
-still_named nodes numbers y ms ns kept h = record {
+pub still_successor : (nodes : List Instance) (numbers : List ℕ) (y : Instance) (ms ns : List ℕ) → ((n : ℕ) → Among ms n → Among ns n)
+    → HasSuccessor nodes numbers y ms → HasSuccessor nodes numbers y ns
+still_successor nodes numbers y ms ns kept h = record {
   place = h.place;
   number = h.number;
   node = h.node;
@@ -174,10 +168,10 @@ still_named nodes numbers y ms ns kept h = record {
   named = kept h.number h.named;
 }
 
-pub still_named_all : (image : Flash) (p : Program) (nodes : List Instance) (numbers : List ℕ) (x : Instance) (ms ns : List ℕ)
+pub still_leads : (image : Flash) (p : Program) (nodes : List Instance) (numbers : List ℕ) (x : Instance) (ms ns : List ℕ)
     → ((n : ℕ) → Among ms n → Among ns n)
-    → NamesResults image p nodes numbers x ms → NamesResults image p nodes numbers x ns
-still_named_all image p nodes numbers x ms ns kept h = λ result y after on there. still_named nodes numbers (widened p y) ms ns kept
+    → LeadsToResults image p nodes numbers x ms → LeadsToResults image p nodes numbers x ns
+still_leads image p nodes numbers x ms ns kept h = λ result y after on there. still_successor nodes numbers (widened p y) ms ns kept
     (h result y after on there)
 
 -- Points
@@ -195,7 +189,7 @@ point_again p q x next later r e = r ∙ ap {A = Point} (λ y. record y { next =
 at_write : {A : Type 0} (xs : List A) (i j : ℕ) (q x : A) → slice_get (set xs i q) j ≡ Some x → i < length xs → ((i ≡ j) × (q ≡ x))
     ⊎ ((i ≢ j) × (slice_get xs j ≡ Some x))
 at_write [] i j q x e h = absurd (omega arith)
-at_write (y ∷ ys) zero zero q x e h = inl (refl, some_is q x e)
+at_write (y ∷ ys) zero zero q x e h = inl (refl, same_Some q x e)
 at_write (y ∷ ys) zero (suc j) q x e h = inr (λ f. omega arith, e)
 at_write (y ∷ ys) (suc i) zero q x e h = inr (λ f. omega arith, e)
 at_write (y ∷ ys) (suc i) (suc j) q x e h = ⊎_elim (λ a. inl (ap suc a.0, a.1)) (λ a. inr (λ f. a.0 (omega arith), a.1))
@@ -237,7 +231,7 @@ made_again response lines rests nodes numbers total n next points p q a there r 
     vector_cases k rest v true e =
         let same : n ≡ k = grind (arith, nat_tests, e) in
         let is : p ≡ vector_after response lines rest v.next =
-        some_is p _ (sym there ∙ (ap (slice_get points) same ∙ v.is)) in
+        same_Some p _ (sym there ∙ (ap (slice_get points) same ∙ v.is)) in
         let later = vector_again response lines p q rest v.next next r.is is in
         record {
           next = next;
@@ -251,7 +245,7 @@ made_again response lines rests nodes numbers total n next points p q a there r 
     own_cases : (m : ℕ) (x : Instance) → IsPointAt points m x → (b : Bool) → nat_eq n m ≡ b → IsPointAt (set points n q) m x
     own_cases m x v true e =
         let same : n ≡ m = grind (arith, nat_tests, e) in
-        let is : p ≡ point_of x v.next = some_is p _ (sym there ∙ (ap (slice_get points) same ∙ v.is)) in
+        let is : p ≡ point_of x v.next = same_Some p _ (sym there ∙ (ap (slice_get points) same ∙ v.is)) in
         let later = point_again p q x v.next next r.is is in
         record {
           next = next;
@@ -262,50 +256,52 @@ made_again response lines rests nodes numbers total n next points p q a there r 
         let apart : n ≢ m = grind (arith, nat_tests, e) in
         record { next = v.next; is = unwritten points n m q _ apart v.is; ordered = v.ordered }
 
-    name_cases : (k : ℕ) (point : Point) → ((n ≡ k) × (q ≡ point)) ⊎ ((n ≢ k) × (slice_get points k ≡ Some point)) → NamesFit total
+    name_cases : (k : ℕ) (point : Point) → ((n ≡ k) × (q ≡ point)) ⊎ ((n ≢ k) × (slice_get points k ≡ Some point)) → SuccessorsFit total
         point.next.items
-    name_cases k point (inl h) = subst (λ x. NamesFit total x.next.items) (sym r.is ∙ h.1) r.fits
+    name_cases k point (inl h) = subst (λ x. SuccessorsFit total x.next.items) (sym r.is ∙ h.1) r.fits
     name_cases k point (inr h) = a.names k point h.1
 
--- the instances' numbers are those of points
-pub have_numbers : (p : Program) (rests : List Rest) (nodes : List Instance) (numbers : List ℕ) (count : ℕ)
-    → AreNumbers (response_clocks p.head.irq) (order_of_program p) rests nodes numbers count → HaveNumbers nodes numbers count
-have_numbers p rests nodes numbers count a = record {
-  lengths = a.lengths;
-  within = numbers_below (response_clocks p.head.irq) (order_of_program p) rests nodes numbers count a;
-}
+-- the instances' numbers, which are lent, are those of points
+pub have_numbers : (p : Program) (rests : List Rest) (nodes seen : List Instance) (numbers lent : List ℕ) (count : ℕ) → seen ≡ nodes
+    → lent ≡ numbers → AreNumbers (response_clocks p.head.irq) (order_of_program p) rests seen numbers count → HaveNumbers nodes lent count
+have_numbers p rests nodes seen numbers lent count at of a =
+    let b = subst (λ (ns : List Instance). AreNumbers (response_clocks p.head.irq) (order_of_program p) rests ns numbers count) at a in
+    subst (λ ms. HaveNumbers nodes ms count) (sym of) (record {
+      lengths = b.lengths;
+      within = numbers_below (response_clocks p.head.irq) (order_of_program p) rests nodes numbers count b;
+    })
 
 -- one more vector names what follows it
-pub vectors_named : (image : Flash) (p : Program) (s : Schedule) (rests : List Rest) (nodes : List Instance) (numbers : List ℕ)
+pub vectors_lead : (image : Flash) (p : Program) (s : Schedule) (rests : List Rest) (nodes : List Instance) (numbers : List ℕ)
     (count k : ℕ) (next : List ℕ) (points : List Point) (old new : Point) (rest : Rest)
-    → k < length points → slice_get rests k ≡ Some rest → NamesVectors image p s rests nodes numbers k points → Renamed count next old new
-    → NamesEntries image p s nodes numbers rest next
-    → NamesVectors image p s rests nodes numbers (k + 1) (set points k new)
-vectors_named image p s rests nodes numbers count k next points old new rest within at before r names j other point less there is = ⊎_elim
+    → k < length points → slice_get rests k ≡ Some rest → VectorsLead image p s rests nodes numbers k points → Renamed count next old new
+    → LeadsToEntries image p s nodes numbers rest next
+    → VectorsLead image p s rests nodes numbers (k + 1) (set points k new)
+vectors_lead image p s rests nodes numbers count k next points old new rest within at before r names j other point less there is = ⊎_elim
     (λ h.
-    let same : rest ≡ other = some_is rest other (sym at ∙ (ap (slice_get rests) h.0 ∙ there)) in
-    subst (λ (z : Point). NamesEntries image p s nodes numbers other z.next.items) (sym r.is ∙ h.1)
-    (subst (λ z. NamesEntries image p s nodes numbers z next) same names))
+    let same : rest ≡ other = same_Some rest other (sym at ∙ (ap (slice_get rests) h.0 ∙ there)) in
+    subst (λ (z : Point). LeadsToEntries image p s nodes numbers other z.next.items) (sym r.is ∙ h.1)
+    (subst (λ z. LeadsToEntries image p s nodes numbers z next) same names))
     (λ h. let apart = h.0 in before j other point (omega arith) there h.1)
     (at_write points k j new point is within)
 
 -- an instance whose point is a vector names nothing itself
 pub own_passed : (image : Flash) (p : Program) (rests : List Rest) (nodes : List Instance) (numbers : List ℕ) (i n : ℕ)
     (points : List Point) → slice_get numbers i ≡ Some n → n < length rests
-    → NamesOwn image p (length rests) nodes numbers i points → NamesOwn image p (length rests) nodes numbers (i + 1) points
+    → NodesLead image p (length rests) nodes numbers i points → NodesLead image p (length rests) nodes numbers (i + 1) points
 own_passed image p rests nodes numbers i n points number low before j m y point less there is above point_is = before j m y point earlier
     there is above point_is
   where
     earlier : j < i
     earlier = ⊎_elim
-        (λ (same : j ≡ i). let e = some_is n m (sym number ∙ (ap (slice_get numbers) (sym same) ∙ is)) in absurd (omega arith))
+        (λ (same : j ≡ i). let e = same_Some n m (sym number ∙ (ap (slice_get numbers) (sym same) ∙ is)) in absurd (omega arith))
         (λ (apart : j ≢ i). omega arith)
         (cases_eq j i)
 
 -- Points without successors
 
-no_names : (count : ℕ) → NamesFit count []
-no_names count = record { few = omega arith; there = All-nil (λ id. id < count); rise = refl }
+no_successors : (count : ℕ) → SuccessorsFit count []
+no_successors count = record { few = omega arith; there = All-nil (λ id. id < count); rise = refl }
 
 pub no_points : (response : ℕ) (lines : Lines) → ArePoints response lines [] [] [] 0 []
 no_points response lines = record {
@@ -316,12 +312,12 @@ no_points response lines = record {
 }
 
 -- one more point without successors
-names_on_end : (count count' : ℕ) (points : List Point) (p : Point) → count ≤ count' → p.next.items ≡ []
-    → ((n : ℕ) (q : Point) → slice_get points n ≡ Some q → NamesFit count q.next.items)
-    → (n : ℕ) (q : Point) → slice_get (points ++ p ∷ []) n ≡ Some q → NamesFit count' q.next.items
-names_on_end count count' points p le bare names n q at = ⊎_elim
+fit_on_end : (count count' : ℕ) (points : List Point) (p : Point) → count ≤ count' → p.next.items ≡ []
+    → ((n : ℕ) (q : Point) → slice_get points n ≡ Some q → SuccessorsFit count q.next.items)
+    → (n : ℕ) (q : Point) → slice_get (points ++ p ∷ []) n ≡ Some q → SuccessorsFit count' q.next.items
+fit_on_end count count' points p le bare names n q at = ⊎_elim
     (λ h. let f = names n q h in record { few = f.few; there = λ k d within. let low = f.there k d within in omega arith; rise = f.rise })
-    (λ h. subst (NamesFit count') (sym (ap (λ x. x.next.items) (sym h.1) ∙ bare)) (no_names count'))
+    (λ h. subst (SuccessorsFit count') (sym (ap (λ x. x.next.items) (sym h.1) ∙ bare)) (no_successors count'))
     (at_more points p q n at)
 
 pub vector_more : (response : ℕ) (lines : Lines) (rests : List Rest) (rest : Rest) (points : List Point) (count : ℕ)
@@ -345,15 +341,9 @@ vector_more response lines rests rest points count same ordered a = record {
       })
       (at_more rests rest r k at);
   own = λ i n x at number low. absurd (cc);
-  names = names_on_end count (count + 1) points (vector_after response lines rest []) (omega arith) refl
+  names = fit_on_end count (count + 1) points (vector_after response lines rest []) (omega arith) refl
       a.names;
 }
-
-length_some : {A : Type 0} (xs : List A) (i : ℕ) → i ≤ length xs → length (take i xs) ≡ i
-length_some [] zero h = refl
-length_some [] (suc i) h = absurd (omega arith)
-length_some (x ∷ xs) zero h = refl
-length_some (x ∷ xs) (suc i) h = ap suc (length_some xs i (omega arith))
 
 pub vectors_next : (response : ℕ) (lines : Lines) (rests : List Rest) (i : ℕ) (d : Rest) (points points' : List Point) → i < length rests
     → ArePoints response lines (take i rests) [] [] i points
@@ -361,22 +351,16 @@ pub vectors_next : (response : ℕ) (lines : Lines) (rests : List Rest) (i : ℕ
     → AreOrdered 255 (get_or rests i d).cells.items → ArePoints response lines (take (i + 1) rests) [] [] (i + 1) points'
 vectors_next response lines rests i d points points' within a e ordered =
     let more : take (i + 1) rests ≡ take i rests ++ get_or rests i d ∷ [] = rw add-one (take-suc rests i d within) in
-    let next = vector_more response lines (take i rests) (get_or rests i d) points i (length_some rests i (omega arith)) ordered a in
+    let next = vector_more response lines (take i rests) (get_or rests i d) points i (length-take-le i rests (omega arith)) ordered a in
     subst (ArePoints response lines (take (i + 1) rests) [] [] (i + 1)) (sym e)
     (subst (λ rs. ArePoints response lines rs [] [] (i + 1) (points ++ vector_after response lines (get_or rests i d) [] ∷ [])) (sym more) next)
-
-all_taken : {A : Type 0} (xs : List A) (i : ℕ) → length xs ≤ i → take i xs ≡ xs
-all_taken [] zero h = refl
-all_taken [] (suc i) h = refl
-all_taken (x ∷ xs) zero h = absurd (omega arith)
-all_taken (x ∷ xs) (suc i) h = ap (λ ys. x ∷ ys) (all_taken xs i (omega arith))
 
 pub vectors_end : (response : ℕ) (lines : Lines) (rests : List Rest) (i : ℕ) (points : List Point) → length rests ≤ i → i ≤ length rests
     → ArePoints response lines (take i rests) [] [] i points → ArePoints response lines rests [] [] (length rests) points
 vectors_end response lines rests i points past within a =
     let same : i ≡ length rests = omega arith in
     subst (λ n. ArePoints response lines rests [] [] n points) same (subst (λ rs. ArePoints response lines rs [] [] i points)
-    (all_taken rests i past) a)
+    (take_all i rests past) a)
 
 -- vectors without successors, where other points are to come
 pub made_bare : (response : ℕ) (lines : Lines) (rests : List Rest) (count total : ℕ) (points : List Point) → count ≤ total → ArePoints

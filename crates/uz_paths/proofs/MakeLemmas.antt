@@ -4,8 +4,8 @@ use Rattle.std.proofs.Common.{length-append, take, drop, subst, reverse}
 use Rattle.std.specs.Prelude.{Some, slice_get, ◌⊎◌}
 use borrow.Author.Count.{below_more}
 use Rattle.std.proofs.lemmas.Bool.{cases_eq}
-use Rattle.std.proofs.lemmas.List.{length-drop, length-reverse, reverse-reverse, take_at}
-use Rattle.std.proofs.lemmas.Option.{slice_get_within}
+use Rattle.std.proofs.lemmas.List.{length-drop, length-reverse, reverse-reverse, take_all, take_at}
+use Rattle.std.proofs.lemmas.Option.{slice_get_within, same_Some}
 use Rattle.uz_schedule.specs.Lines.{Lines}
 use Rattle.uz_schedule.specs.Schedule.{response_clocks}
 use Rattle.uz_schedule.specs.declared.lines.Schedule.{Schedule}
@@ -15,25 +15,22 @@ use Rattle.uz_schedule.specs.declared.states.Rest.{Rest}
 use Rattle.uz_search.specs.declared.program.Program.{Program}
 use Rattle.uz_search.specs.Following.{Flash, order_of_program}
 use Rattle.uz_paths.specs.declared.lists.Lists.{Lists}
-use Rattle.uz_paths.specs.Linked.{ArePointed, AreNamed, IsPointAt, NamesFit, NamesOwn, NamesResults}
-use Rattle.uz_paths.specs.Linked.{NamesVectors}
+use Rattle.uz_paths.specs.Linked.{ArePointed, IsPointAt, SuccessorsFit, NodesLead, LeadsToResults}
+use Rattle.uz_paths.specs.Linked.{VectorsLead}
 use Rattle.uz_paths.specs.Lists.{HasListAt, IsListAt}
 use Rattle.uz_paths.specs.Numbers.{AreNumbers, IsVectorOf}
-use Rattle.uz_paths.specs.Plan.{AreLinks, AreMade, IsLinkAt, IsPlan}
+use Rattle.uz_paths.specs.Plan.{AreLinks, AreMade, HavePoints, IsLinkAt, IsPlan}
 use Rattle.uz_join.specs.Points.{IsOrdered, point_of}
 use Rattle.uz_join.proofs.TakenLemmas.{next_taken}
 use Rattle.uz_paths.proofs.LinkLemmas.{own_passed}
 use Rattle.uz_paths.proofs.NumberLemmas.{at_more, keeps, last_there, more_vector, more_own, none_numbered, same_count}
 
-some_is : {A : Type 0} (a b : A) → Some a ≡ Some b → a ≡ b
-some_is a b e = cc
-
 -- Lists of names
 
 -- one more list
 pub links_more : (image : Flash) (p : Program) (vectors : ℕ) (nodes : List Instance) (numbers : List ℕ) (count i n : ℕ) (x : Instance)
-    (list : List ℕ) (old new : Lists) → slice_get nodes i ≡ Some x → slice_get numbers i ≡ Some n → NamesFit count list
-    → (vectors ≤ n → NamesResults image p nodes numbers x list) → IsListAt new i list
+    (list : List ℕ) (old new : Lists) → slice_get nodes i ≡ Some x → slice_get numbers i ≡ Some n → SuccessorsFit count list
+    → (vectors ≤ n → LeadsToResults image p nodes numbers x list) → IsListAt new i list
     → ((j : ℕ) (there : List ℕ) → IsListAt old j there → IsListAt new j there)
     → AreLinks image p vectors nodes numbers count old i → AreLinks image p vectors nodes numbers count new (i + 1)
 links_more image p vectors nodes numbers count i n x list old new at number fits names there kept before =
@@ -49,9 +46,9 @@ links_more image p vectors nodes numbers count i n x list old new at number fits
       there = there;
       fits = fits;
       names = λ m y node of low.
-          let one : n ≡ m = some_is n m (sym number ∙ of) in
-          let same : x ≡ y = some_is x y (sym at ∙ node) in
-          subst (λ z. NamesResults image p nodes numbers z list) same (names (omega arith));
+          let one : n ≡ m = same_Some n m (sym number ∙ of) in
+          let same : x ≡ y = same_Some x y (sym at ∙ node) in
+          subst (λ z. LeadsToResults image p nodes numbers z list) same (names (omega arith));
     })
 
 -- A list that was written from its begin to its end
@@ -92,7 +89,7 @@ made_vector response lines rests ns of total k x points same less a = record {
 
 made_own : (response : ℕ) (lines : Lines) (rests : List Rest) (ns : List Instance) (of : List ℕ) (total n : ℕ) (x : Instance)
     (next : List ℕ) (points : List Point)
-    → length of ≡ length ns → n ≡ length points → IsOrdered x → NamesFit total next → AreMade response lines rests ns of total points
+    → length of ≡ length ns → n ≡ length points → IsOrdered x → SuccessorsFit total next → AreMade response lines rests ns of total points
     → AreMade response lines rests (ns ++ x ∷ []) (of ++ n ∷ []) total (points ++ point_of x next ∷ [])
 made_own response lines rests ns of total n x next points same place ordered fits a = record {
   vectors = λ k rest at. let v = a.vectors k rest at in record {
@@ -103,7 +100,7 @@ made_own response lines rests ns of total n x next points same place ordered fit
   own = λ i m y node number low. own_cases i m y low (at_more ns x y i node) (at_more of n m i number);
   names = λ k point at. ⊎_elim
       (λ h. a.names k point h)
-      (λ h. subst (λ (z : Point). NamesFit total z.next.items) h.1 fits)
+      (λ h. subst (λ (z : Point). SuccessorsFit total z.next.items) h.1 fits)
       (at_more points (point_of x next) point k at);
 }
   where
@@ -124,36 +121,36 @@ made_own response lines rests ns of total n x next points same place ordered fit
     }
 
 -- the vectors name what they named
-vectors_named : (image : Flash) (p : Program) (s : Schedule) (rests : List Rest) (nodes : List Instance) (numbers : List ℕ)
+vectors_still_lead : (image : Flash) (p : Program) (s : Schedule) (rests : List Rest) (nodes : List Instance) (numbers : List ℕ)
     (points : List Point) (new : Point) → length rests ≤ length points
-    → NamesVectors image p s rests nodes numbers (length rests) points → NamesVectors image p s rests nodes numbers (length rests)
+    → VectorsLead image p s rests nodes numbers (length rests) points → VectorsLead image p s rests nodes numbers (length rests)
     (points ++ new ∷ [])
-vectors_named image p s rests nodes numbers points new low before k rest point less there is = ⊎_elim
+vectors_still_lead image p s rests nodes numbers points new low before k rest point less there is = ⊎_elim
     (λ h. before k rest point less there h)
     (λ h. let same = h.0 in absurd (omega arith))
     (at_more points new point k is)
 
 -- and one more instance's point names its results
-own_named : (image : Flash) (p : Program) (response : ℕ) (lines : Lines) (rests : List Rest) (nodes : List Instance) (numbers : List ℕ)
+nodes_lead : (image : Flash) (p : Program) (response : ℕ) (lines : Lines) (rests : List Rest) (nodes : List Instance) (numbers : List ℕ)
     (count i n : ℕ) (next : List ℕ) (points : List Point) (x : Instance)
     → AreNumbers response lines rests nodes numbers count → slice_get nodes i ≡ Some x → slice_get numbers i ≡ Some n → n ≡ length points
-    → NamesOwn image p (length rests) nodes numbers i points → NamesResults image p nodes numbers x next
-    → NamesOwn image p (length rests) nodes numbers (i + 1) (points ++ point_of x next ∷ [])
-own_named image p response lines rests nodes numbers count i n next points x are at number place before names j m y point less there is
+    → NodesLead image p (length rests) nodes numbers i points → LeadsToResults image p nodes numbers x next
+    → NodesLead image p (length rests) nodes numbers (i + 1) (points ++ point_of x next ∷ [])
+nodes_lead image p response lines rests nodes numbers count i n next points x are at number place before names j m y point less there is
     above point_is = ⊎_elim
     (λ h. before j m y point (earlier h) there is above h)
     (λ h.
     let one : j ≡ i = are.apart j i m above is (number ∙ ap Some (place ∙ sym h.0)) in
-    let same : x ≡ y = some_is x y (sym at ∙ (ap (slice_get nodes) (sym one) ∙ there)) in
-    subst (λ (z : Point). NamesResults image p nodes numbers y z.next.items) h.1
-    (subst (λ z. NamesResults image p nodes numbers z next) same names))
+    let same : x ≡ y = same_Some x y (sym at ∙ (ap (slice_get nodes) (sym one) ∙ there)) in
+    subst (λ (z : Point). LeadsToResults image p nodes numbers y z.next.items) h.1
+    (subst (λ z. LeadsToResults image p nodes numbers z next) same names))
     (at_more points (point_of x next) point m point_is)
   where
     earlier : slice_get points m ≡ Some point → j < i
     earlier h =
         let within = slice_get_within points m point h in
         ⊎_elim
-        (λ (same : j ≡ i). let e = some_is n m (sym number ∙ (ap (slice_get numbers) (sym same) ∙ is)) in absurd (omega arith))
+        (λ (same : j ≡ i). let e = same_Some n m (sym number ∙ (ap (slice_get numbers) (sym same) ∙ is)) in absurd (omega arith))
         (λ (apart : j ≢ i). omega arith)
         (cases_eq j i)
 
@@ -165,21 +162,8 @@ pub record AreSoFar (image : Flash) (p : Program) (s : Schedule) (rests : List R
   pub left_are : reverse left ≡ drop i nodes
   pub numbered : AreNumbers (response_clocks p.head.irq) (order_of_program p) rests (take i nodes) (take i numbers) (length points)
   pub made : AreMade (response_clocks p.head.irq) (order_of_program p) rests (take i nodes) (take i numbers) count points
-  pub vectors : NamesVectors image p s rests nodes numbers (length rests) points
-  pub own : NamesOwn image p (length rests) nodes numbers i points
-
--- none yet
-pub none_made : (image : Flash) (p : Program) (s : Schedule) (rests : List Rest) (nodes : List Instance) (numbers : List ℕ) (count : ℕ)
-    (links : Lists) (left : List Instance) (points : List Point) → IsPlan image p s rests nodes numbers count links points
-    → left ≡ reverse nodes → AreSoFar image p s rests nodes numbers count 0 left points
-none_made image p s rests nodes numbers count links left points plan e = record {
-  left_are = ap reverse e ∙ reverse-reverse nodes;
-  numbered = subst (AreNumbers (response_clocks p.head.irq) (order_of_program p) rests [] []) (sym plan.size)
-      (none_numbered (response_clocks p.head.irq) (order_of_program p) rests);
-  made = plan.made;
-  vectors = plan.named;
-  own = λ i n x point less at number low there. absurd (omega arith);
-}
+  pub vectors : VectorsLead image p s rests nodes numbers (length rests) points
+  pub own : NodesLead image p (length rests) nodes numbers i points
 
 -- an instance is left
 pub some_left : (nodes : List Instance) (numbers : List ℕ) (left : List Instance) (i : ℕ) → length numbers ≡ length nodes
@@ -189,129 +173,116 @@ some_left nodes numbers left i same less are =
 
 -- there is a list for each instance
 pub link_there : (image : Flash) (p : Program) (s : Schedule) (rests : List Rest) (nodes : List Instance) (numbers : List ℕ) (count : ℕ)
-    (links : Lists) (points : List Point) (i : ℕ) → IsPlan image p s rests nodes numbers count links points → i < length numbers
+    (links : Lists) (points : List Point) (i : ℕ) → IsPlan image p s rests nodes numbers count links points → i < length nodes
     → HasListAt links i
 link_there image p s rests nodes numbers count links points i plan less =
-    let same = plan.numbered.lengths in
-    let link = plan.linked i (omega arith) in
-    record { list = link.list; there = link.there; few = link.fits.few }
+    let link = plan.linked i less in record { list = link.list; there = link.there; few = link.fits.few }
 
--- an instance that is a vector's
-pub vector_passed : (image : Flash) (p : Program) (s : Schedule) (rests : List Rest) (nodes : List Instance) (numbers : List ℕ) (count i : ℕ)
-    (links : Lists) (first points points' : List Point) (left left' : List Instance) (n : ℕ) (x : Instance)
-    → IsPlan image p s rests nodes numbers count links first
-    → AreSoFar image p s rests nodes numbers count i left points → left ≡ left' ++ x ∷ [] → slice_get numbers i ≡ Some n
-    → n < length rests → points' ≡ points → AreSoFar image p s rests nodes numbers count (i + 1) left' points'
-vector_passed image p s rests nodes numbers count i links first points points' left left' n x plan a e number low f =
-    subst (AreSoFar image p s rests nodes numbers count (i + 1) left') (sym f) (
-    let next = next_taken nodes left left' i x a.left_are e in
-    let nodes_more = take_more nodes i x next.0 in
-    let numbers_more = take_more numbers i n number in
-    let vector : IsVectorOf (response_clocks p.head.irq) (order_of_program p) rests n x = ⊎_elim
-    (λ (v : IsVectorOf (response_clocks p.head.irq) (order_of_program p) rests n x). v)
-    (λ h. let high = h.1 in absurd (omega arith))
-    (plan.numbered.each i n x next.0 number) in
-    record {
-      left_are = next.1;
-      numbered = subst (λ ns. AreNumbers (response_clocks p.head.irq) (order_of_program p) rests ns (take (i + 1) numbers) (length points))
-          (sym nodes_more) (subst (λ ms. AreNumbers (response_clocks p.head.irq) (order_of_program p) rests (take i nodes ++ x ∷ []) ms
-          (length points)) (sym numbers_more)
-          (more_vector (response_clocks p.head.irq) (order_of_program p) rests (take i nodes) (take i numbers) (length points) n x a.numbered
-          vector));
-      made = subst (λ ns. AreMade (response_clocks p.head.irq) (order_of_program p) rests ns (take (i + 1) numbers) count points)
-          (sym nodes_more) (subst (λ ms. AreMade (response_clocks p.head.irq) (order_of_program p) rests (take i nodes ++ x ∷ []) ms
-          count points) (sym numbers_more)
-          (made_vector (response_clocks p.head.irq) (order_of_program p) rests (take i nodes) (take i numbers) count n x points
-          a.numbered.lengths low a.made));
-      vectors = a.vectors;
-      own = own_passed image p rests nodes numbers i n points number low a.own;
-    })
+module _ (image : Flash) (p : Program) (s : Schedule) (rests : List Rest) (nodes : List Instance) (numbers : List ℕ) (count : ℕ)
+    (links : Lists) (first : List Point) (plan : IsPlan image p s rests nodes numbers count links first) where
+  abbrev response : ℕ
+  response = response_clocks p.head.irq
 
--- an instance that has a point of its own
-pub own_put : (image : Flash) (p : Program) (s : Schedule) (rests : List Rest) (nodes : List Instance) (numbers : List ℕ) (count i : ℕ)
-    (links : Lists) (first points points' : List Point) (left left' : List Instance) (n : ℕ) (x : Instance)
-    → IsPlan image p s rests nodes numbers count links first
-    → AreSoFar image p s rests nodes numbers count i left points → left ≡ left' ++ x ∷ [] → slice_get numbers i ≡ Some n
-    → length rests ≤ n → IsOrdered x
-    → ((list : List ℕ) → IsListAt links i list → points' ≡ points ++ point_of x list ∷ [])
-    → AreSoFar image p s rests nodes numbers count (i + 1) left' points'
-own_put image p s rests nodes numbers count i links first points points' left left' n x plan a e number low ordered f =
-    let next = next_taken nodes left left' i x a.left_are e in
-    let within = slice_get_within nodes i x next.0 in
-    let link = plan.linked i within in
-    subst (AreSoFar image p s rests nodes numbers count (i + 1) left') (sym (f link.list link.there)) (
-    let nodes_more = take_more nodes i x next.0 in
-    let numbers_more = take_more numbers i n number in
-    let place : n ≡ length points = same_count (response_clocks p.head.irq) (order_of_program p) rests (take i nodes) (take i numbers) n
-    (length points) (plan.counted i n number low) a.numbered in
-    let none : (k : ℕ) → IsVectorOf (response_clocks p.head.irq) (order_of_program p) rests k x → ⊥ = ⊎_elim
-    (λ (v : IsVectorOf (response_clocks p.head.irq) (order_of_program p) rests n x). absurd (
-    let less = slice_get_within rests n v.rest v.there in omega arith))
-    (λ h. h.0)
-    (plan.numbered.each i n x next.0 number) in
-    let longer : length (points ++ point_of x link.list ∷ []) ≡ length points + 1 = length-append points (point_of x link.list ∷ []) in
-    let some = a.numbered.some in
-    record {
-      left_are = next.1;
-      numbered = subst (AreNumbers (response_clocks p.head.irq) (order_of_program p) rests (take (i + 1) nodes) (take (i + 1) numbers))
-          (sym longer)
-          (subst (λ ns. AreNumbers (response_clocks p.head.irq) (order_of_program p) rests ns (take (i + 1) numbers) (length points + 1))
-          (sym nodes_more) (subst (λ ms. AreNumbers (response_clocks p.head.irq) (order_of_program p) rests (take i nodes ++ x ∷ []) ms
-          (length points + 1)) (sym (numbers_more ∙ ap (λ m. take i numbers ++ m ∷ []) place))
-          (more_own (response_clocks p.head.irq) (order_of_program p) rests (take i nodes) (take i numbers) (length points) x a.numbered
-          none)));
-      made = subst (λ ns. AreMade (response_clocks p.head.irq) (order_of_program p) rests ns (take (i + 1) numbers) count
-          (points ++ point_of x link.list ∷ []))
-          (sym nodes_more) (subst (λ ms. AreMade (response_clocks p.head.irq) (order_of_program p) rests (take i nodes ++ x ∷ []) ms
-          count (points ++ point_of x link.list ∷ [])) (sym numbers_more)
-          (made_own (response_clocks p.head.irq) (order_of_program p) rests (take i nodes) (take i numbers) count n x link.list points
-          a.numbered.lengths place ordered link.fits a.made));
-      vectors = vectors_named image p s rests nodes numbers points (point_of x link.list) some a.vectors;
-      own = own_named image p (response_clocks p.head.irq) (order_of_program p) rests nodes numbers count i n link.list points x
-          plan.numbered next.0 number place a.own (link.names n x next.0 number low);
-    })
+  abbrev lines : Lines
+  lines = order_of_program p
 
-all_taken : {A : Type 0} (xs : List A) (i : ℕ) → length xs ≤ i → take i xs ≡ xs
-all_taken [] zero h = refl
-all_taken [] (suc i) h = refl
-all_taken (x ∷ xs) zero h = absurd (omega arith)
-all_taken (x ∷ xs) (suc i) h = ap (λ ys. x ∷ ys) (all_taken xs i (omega arith))
+  abbrev pub SoFar : ℕ → List Instance → List Point → Type 0
+  SoFar = AreSoFar image p s rests nodes numbers count
 
--- all points
-pub all_pointed : (image : Flash) (p : Program) (s : Schedule) (rests : List Rest) (nodes : List Instance) (numbers : List ℕ) (count i : ℕ)
-    (links : Lists) (first points : List Point) (left : List Instance) → IsPlan image p s rests nodes numbers count links first
-    → AreSoFar image p s rests nodes numbers count i left points → length numbers ≤ i → ArePointed p rests nodes numbers count points
-all_pointed image p s rests nodes numbers count i links first points left plan a past =
-    let same = plan.numbered.lengths in
-    let all_nodes : take i nodes ≡ nodes = all_taken nodes i (omega arith) in
-    let all_numbers : take i numbers ≡ numbers = all_taken numbers i past in
-    let numbered : AreNumbers (response_clocks p.head.irq) (order_of_program p) rests nodes numbers (length points) =
-    subst (λ ns. AreNumbers (response_clocks p.head.irq) (order_of_program p) rests ns numbers (length points)) all_nodes
-    (subst (λ ms. AreNumbers (response_clocks p.head.irq) (order_of_program p) rests (take i nodes) ms (length points)) all_numbers
-    a.numbered) in
-    let made : AreMade (response_clocks p.head.irq) (order_of_program p) rests nodes numbers count points =
-    subst (λ ns. AreMade (response_clocks p.head.irq) (order_of_program p) rests ns numbers count points) all_nodes
-    (subst (λ ms. AreMade (response_clocks p.head.irq) (order_of_program p) rests (take i nodes) ms count points) all_numbers a.made) in
-    record {
-      numbered = plan.numbered;
-      made = record {
-        size = same_count (response_clocks p.head.irq) (order_of_program p) rests nodes numbers (length points) count numbered
-            plan.numbered;
-        vectors = made.vectors;
-        own = made.own;
-        names = made.names;
-      };
-    }
+  -- one instance more is taken, and its number
+  one_more : (P : List Instance → List ℕ → Type 0) (i n : ℕ) (x : Instance) → slice_get nodes i ≡ Some x → slice_get numbers i ≡ Some n
+      → P (take i nodes ++ x ∷ []) (take i numbers ++ n ∷ []) → P (take (i + 1) nodes) (take (i + 1) numbers)
+  one_more P i n x node number h =
+      subst (λ ns. P ns (take (i + 1) numbers)) (sym (take_more nodes i x node))
+      (subst (P (take i nodes ++ x ∷ [])) (sym (take_more numbers i n number)) h)
 
-pub all_named : (image : Flash) (p : Program) (s : Schedule) (rests : List Rest) (nodes : List Instance) (numbers : List ℕ) (count i : ℕ)
-    (links : Lists) (first points : List Point) (left : List Instance) → IsPlan image p s rests nodes numbers count links first
-    → AreSoFar image p s rests nodes numbers count i left points → length numbers ≤ i → AreNamed image p s rests nodes numbers points
-all_named image p s rests nodes numbers count i links first points left plan a past = record {
-  vectors = a.vectors;
-  own = λ j n x point less at number low there.
+  -- all are taken
+  all_of : (P : List Instance → List ℕ → Type 0) (i : ℕ) → length numbers ≤ i → P (take i nodes) (take i numbers) → P nodes numbers
+  all_of P i past h =
       let same = plan.numbered.lengths in
-      a.own j n x point (omega arith) at number low there;
-}
+      subst (λ ns. P ns numbers) (take_all i nodes (omega arith)) (subst (P (take i nodes)) (take_all i numbers past) h)
+
+  -- none yet
+  pub none_made : (left : List Instance) → left ≡ reverse nodes → SoFar 0 left first
+  none_made left e = record {
+    left_are = ap reverse e ∙ reverse-reverse nodes;
+    numbered = subst (AreNumbers response lines rests [] []) (sym plan.size) (none_numbered response lines rests);
+    made = plan.made;
+    vectors = plan.named;
+    own = λ i n x point less at number low there. absurd (omega arith);
+  }
+
+  -- an instance that is a vector's
+  pub vector_passed : (i n : ℕ) (points points' : List Point) (left left' : List Instance) (x : Instance) → SoFar i left points
+      → left ≡ left' ++ x ∷ [] → slice_get numbers i ≡ Some n → n < length rests → points' ≡ points → SoFar (i + 1) left' points'
+  vector_passed i n points points' left left' x a e number low f = subst (SoFar (i + 1) left') (sym f) (
+      let next = next_taken nodes left left' i x a.left_are e in
+      let vector : IsVectorOf response lines rests n x = ⊎_elim
+      (λ (v : IsVectorOf response lines rests n x). v)
+      (λ h. let high = h.1 in absurd (omega arith))
+      (plan.numbered.each i n x next.0 number) in
+      record {
+        left_are = next.1;
+        numbered = one_more (λ ns ms. AreNumbers response lines rests ns ms (length points)) i n x next.0 number
+            (more_vector response lines rests (take i nodes) (take i numbers) (length points) n x a.numbered vector);
+        made = one_more (λ ns ms. AreMade response lines rests ns ms count points) i n x next.0 number
+            (made_vector response lines rests (take i nodes) (take i numbers) count n x points a.numbered.lengths low a.made);
+        vectors = a.vectors;
+        own = own_passed image p rests nodes numbers i n points number low a.own;
+      })
+
+  -- an instance that has a point of its own
+  pub own_put : (i n : ℕ) (points points' : List Point) (left left' : List Instance) (x : Instance) → SoFar i left points
+      → left ≡ left' ++ x ∷ [] → slice_get numbers i ≡ Some n → length rests ≤ n → IsOrdered x
+      → ((list : List ℕ) → IsListAt links i list → points' ≡ points ++ point_of x list ∷ []) → SoFar (i + 1) left' points'
+  own_put i n points points' left left' x a e number low ordered f =
+      let next = next_taken nodes left left' i x a.left_are e in
+      let link = plan.linked i (slice_get_within nodes i x next.0) in
+      let more : List Point = points ++ point_of x link.list ∷ [] in
+      let place : n ≡ length points = same_count response lines rests (take i nodes) (take i numbers) n (length points)
+      (plan.counted i n number low) a.numbered in
+      let none : (k : ℕ) → IsVectorOf response lines rests k x → ⊥ = ⊎_elim
+      (λ (v : IsVectorOf response lines rests n x). absurd (let less = slice_get_within rests n v.rest v.there in omega arith))
+      (λ h. h.0)
+      (plan.numbered.each i n x next.0 number) in
+      subst (SoFar (i + 1) left') (sym (f link.list link.there)) (record {
+        left_are = next.1;
+        numbered = one_more (λ ns ms. AreNumbers response lines rests ns ms (length more)) i n x next.0 number
+            (subst (λ m. AreNumbers response lines rests (take i nodes ++ x ∷ []) (take i numbers ++ m ∷ []) (length more)) (sym place)
+            (subst (AreNumbers response lines rests (take i nodes ++ x ∷ []) (take i numbers ++ length points ∷ []))
+            (sym (length-append points (point_of x link.list ∷ [])))
+            (more_own response lines rests (take i nodes) (take i numbers) (length points) x a.numbered none)));
+        made = one_more (λ ns ms. AreMade response lines rests ns ms count more) i n x next.0 number
+            (made_own response lines rests (take i nodes) (take i numbers) count n x link.list points a.numbered.lengths place ordered
+            link.fits a.made);
+        vectors = vectors_still_lead image p s rests nodes numbers points (point_of x link.list) a.numbered.some a.vectors;
+        own = nodes_lead image p response lines rests nodes numbers count i n link.list points x plan.numbered next.0 number place a.own
+            (link.names n x next.0 number low);
+      })
+
+  -- all points
+  pub have_points : (i : ℕ) (points : List Point) (left : List Instance) → SoFar i left points → length numbers ≤ i
+      → HavePoints image p s rests nodes numbers count points
+  have_points i points left a past =
+      let numbered = all_of (λ ns ms. AreNumbers response lines rests ns ms (length points)) i past a.numbered in
+      let made = all_of (λ ns ms. AreMade response lines rests ns ms count points) i past a.made in
+      record {
+        pointed = record {
+          numbered = plan.numbered;
+          made = record {
+            size = same_count response lines rests nodes numbers (length points) count numbered plan.numbered;
+            vectors = made.vectors;
+            own = made.own;
+            names = made.names;
+          };
+        };
+        named = record {
+          vectors = a.vectors;
+          own = λ j n x point less at number low there.
+              let same = plan.numbered.lengths in
+              a.own j n x point (omega arith) at number low there;
+        };
+      }
 
 -- there are as many points as were counted
 pub sized : (p : Program) (rests : List Rest) (nodes : List Instance) (numbers : List ℕ) (count : ℕ) (points : List Point)

@@ -7,7 +7,7 @@ use Rattle.std.proofs.Math.Seq.{take-suc}
 use Rattle.std.proofs.lemmas.Bool.{cases_lt}
 use Rattle.std.proofs.lemmas.Bool.Decides.{nat_tests}
 use Rattle.std.proofs.lemmas.List.{length-take-le, take-append-le, take_all, take_at}
-use Rattle.std.proofs.lemmas.Option.{slice_get_within, slice_get-get_or, slice_get_cases, slice_get_read}
+use Rattle.std.proofs.lemmas.Option.{slice_get_within, slice_get-get_or, slice_get_cases, slice_get_read, same_Some}
 use Rattle.uz_search.specs.Following.{Among}
 use Rattle.uz_schedule.specs.Lines.{Lines}
 use Rattle.uz_schedule.specs.declared.states.Instance.{Instance}
@@ -17,14 +17,11 @@ use Rattle.uz_paths.specs.Plan.{AreCounted}
 
 -- Rests
 
-one_of : {A : Type 0} (a b : A) → Some a ≡ Some b → a ≡ b
-one_of a b e = cc
-
 -- it isn't the vector of the rest of number k
 not_here : (response : ℕ) (lines : Lines) (rests : List Rest) (k : ℕ) (rest : Rest) (x : Instance) → slice_get rests k ≡ Some rest
     → (IsFirstAfter response lines rest x → ⊥) → IsVectorOf response lines rests k x → ⊥
 not_here response lines rests k rest x there not v =
-    let same : v.rest ≡ rest = one_of v.rest rest (sym v.there ∙ there) in
+    let same : v.rest ≡ rest = same_Some v.rest rest (sym v.there ∙ there) in
     not (subst (λ r. IsFirstAfter response lines r x) same v.after)
 
 pub none_more : (response : ℕ) (lines : Lines) (rests : List Rest) (k : ℕ) (d : Rest) (x : Instance) → k < length rests
@@ -45,7 +42,7 @@ none_all response lines rests k x all none j v =
 -- the element at a place of a list with one more
 pub at_more : {A : Type 0} (xs : List A) (a x : A) (i : ℕ) → slice_get (xs ++ a ∷ []) i ≡ Some x → (slice_get xs i ≡ Some x)
     ⊎ ((i ≡ length xs) × (a ≡ x))
-at_more [] a x zero e = inr (refl, one_of a x e)
+at_more [] a x zero e = inr (refl, same_Some a x e)
 at_more [] a x (suc i) e = absurd (cc)
 at_more (y ∷ ys) a x zero e = inl e
 at_more (y ∷ ys) a x (suc i) e = ⊎_elim (λ h. inl h) (λ h. inr (ap suc h.0, h.1)) (at_more ys a x i e)

@@ -6,7 +6,7 @@ use Rattle.std.specs.Ordering.{nat_cmp}
 use Rattle.std.specs.FinMap.{FinMap}
 use Rattle.std.proofs.Math.Seq.{drop-cons}
 use Rattle.std.proofs.lemmas.Bool.{cases_lt}
-use Rattle.std.proofs.lemmas.Option.{slice_get-get_or, slice_get_cases}
+use Rattle.std.proofs.lemmas.Option.{slice_get-get_or, slice_get_cases, same_Some}
 use Rattle.avr_asm.specs.declared.output.Hint.{Hint}
 use Rattle.uz_schedule.specs.Ends.{Ends}
 use Rattle.uz_schedule.specs.Instances.{entry_instance_at}
@@ -30,9 +30,6 @@ use Rattle.uz_paths.specs.Faults.{FactPart, FactsFine}
 use Rattle.uz_paths.specs.Reading.{IsReading, ReadingFits, LengthsFit}
 use Rattle.uz_paths.specs.Words.{halves, is_half, length_by}
 use Rattle.uz_paths.specs.ProgramOf.{entry_with, first_state, first_states, starts_of, AreKindsBy, AreShortened}
-
-some_is : {A : Type 0} (a b : A) → Some a ≡ Some b → a ≡ b
-some_is a b e = cc
 
 -- Facts
 
@@ -152,15 +149,15 @@ first_fits p start top cells c s main last few =
 
 pub first_of_five : {A : Type 0} (P : A → Type 0) (a b c d e x : A) (i : ℕ) → P a → P b → P c → P d → P e
     → slice_get (a ∷ b ∷ c ∷ d ∷ e ∷ []) i ≡ Some x → P x
-first_of_five P a b c d e x zero pa pb pc pd pe h = subst P (some_is a x h) pa
-first_of_five P a b c d e x (suc zero) pa pb pc pd pe h = subst P (some_is b x h) pb
-first_of_five P a b c d e x (suc (suc zero)) pa pb pc pd pe h = subst P (some_is c x h) pc
-first_of_five P a b c d e x (suc (suc (suc zero))) pa pb pc pd pe h = subst P (some_is d x h) pd
-first_of_five P a b c d e x (suc (suc (suc (suc zero)))) pa pb pc pd pe h = subst P (some_is e x h) pe
+first_of_five P a b c d e x zero pa pb pc pd pe h = subst P (same_Some a x h) pa
+first_of_five P a b c d e x (suc zero) pa pb pc pd pe h = subst P (same_Some b x h) pb
+first_of_five P a b c d e x (suc (suc zero)) pa pb pc pd pe h = subst P (same_Some c x h) pc
+first_of_five P a b c d e x (suc (suc (suc zero))) pa pb pc pd pe h = subst P (same_Some d x h) pd
+first_of_five P a b c d e x (suc (suc (suc (suc zero)))) pa pb pc pd pe h = subst P (same_Some e x h) pe
 first_of_five P a b c d e x (suc (suc (suc (suc (suc i))))) pa pb pc pd pe h = absurd (cc)
 
 pub first_of_one : {A : Type 0} (P : A → Type 0) (a x : A) (i : ℕ) → P a → slice_get (a ∷ []) i ≡ Some x → P x
-first_of_one P a x zero pa h = subst P (some_is a x h) pa
+first_of_one P a x zero pa h = subst P (same_Some a x h) pa
 first_of_one P a x (suc i) pa h = absurd (cc)
 
 all_start : (p : Program) (start : Beginning) (registers : List Ends) (top : ℕ) (cells : List Ends) (head : Head) (kind : Kind)

@@ -7,7 +7,7 @@ use Rattle.std.proofs.lemmas.List.{drop_all}
 use Rattle.std.proofs.lemmas.Bool.Decides.{nat_tests}
 use Rattle.std.specs.Ordering.{nat_cmp}
 use Rattle.std.specs.FinMap.{FinMap}
-use Rattle.std.proofs.lemmas.Option.{slice_get_within, slice_get-get_or}
+use Rattle.std.proofs.lemmas.Option.{slice_get_within, slice_get-get_or, same_Some}
 use Rattle.uz_schedule.specs.Limits.{rises_from}
 use Rattle.uz_schedule.specs.declared.states.Instance.{Instance}
 use Rattle.uz_schedule.specs.declared.states.Rest.{Rest}
@@ -39,9 +39,6 @@ pub record OfReturn (line vector : ℕ) (returns : List (Option Return)) (i : �
   pub is_line : rest.line ≡ line + place
   pub is_clock : rest.clock ≡ noted.clock
   pub are_cells : rest.cells ≡ noted.cells
-
-some_is : {A : Type 0} (a b : A) → Some a ≡ Some b → a ≡ b
-some_is a b e = cc
 
 after_none : (line vector : ℕ) (returns : List (Option Return)) (i : ℕ) (rest : Rest) → OfReturn (suc line) vector returns i rest
     → OfReturn line vector (None ∷ returns) i rest
@@ -77,7 +74,7 @@ unfolding somes
 of_return line vector [] i rest e = absurd (cc)
 of_return line vector (None ∷ returns) i rest e = after_none line vector returns i rest (of_return (suc line) vector returns i rest e)
 of_return line vector (Some r ∷ returns) zero rest e =
-    let is : record { line = line; clock = r.clock; vector = vector; cells = record { items = r.cells.items } } ≡ rest = some_is _ rest e in
+    let is : record { line = line; clock = r.clock; vector = vector; cells = record { items = r.cells.items } } ≡ rest = same_Some _ rest e in
     record {
       place = 0;
       index = refl;
@@ -132,8 +129,8 @@ rest_of_line line vector (None ∷ returns) (suc i) r at =
     let next : suc line + i ≡ line + suc i = omega arith in
     subst (λ l. RestIn (rests_from (suc line) vector returns) l r) next (rest_of_line (suc line) vector returns i r at)
 rest_of_line line vector (Some q ∷ returns) zero r at =
-    let same : Some q ≡ Some r = some_is (Some q) (Some r) at in
-    let one : q ≡ r = some_is q r same in
+    let same : Some q ≡ Some r = same_Some (Some q) (Some r) at in
+    let one : q ≡ r = same_Some q r same in
     record {
       rest = record { line = line; clock = q.clock; vector = vector; cells = record { items = q.cells.items } };
       is = ap (λ b. if b then Some (record { line = line; clock = q.clock; vector = vector; cells = record { items = q.cells.items } }) else

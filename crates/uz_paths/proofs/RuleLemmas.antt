@@ -5,7 +5,7 @@ use Rattle.std.proofs.Common.{inl, inr}
 use Rattle.std.specs.Ordering.{nat_cmp}
 use Rattle.std.specs.FinMap.{FinMap}
 use Rattle.std.proofs.lemmas.Bool.Decides.{nat_tests}
-use Rattle.std.proofs.lemmas.Option.{slice_get_within}
+use Rattle.std.proofs.lemmas.Option.{slice_get_within, same_Some}
 use Rattle.avr_asm.specs.declared.output.Hint.{Hint}
 use Rattle.avr_asm.specs.declared.output.Hint.TheVariants.{Start, Lines, Half, Stack, Cell, Fact}
 use Rattle.uz_schedule.specs.Schedule.{half_line}
@@ -158,19 +158,12 @@ rules_by_fine image irq hints i (Fact at place lo hi) r f = fact_obeys image at 
 
 -- ---- one rule at an index
 
-some_same : {X : Type 0} (x y : X) → Some x ≡ Some y → x ≡ y
-some_same {X = X} x y e = ap (value x) e
-  where
-    value : X → Option X → X
-    value d None = d
-    value d (Some z) = z
-
 module _ (image : FinMap nat_cmp ℕ) (irq : Response) (hints : List Hint) (i : ℕ) where
   pub of_hint : (h : Hint) (o : Option Rule) → slice_get hints i ≡ Some h
       → MatchOption o (ObeysFirst image irq hints i h hint_rules 19) (λ r. IsBroken image irq hints i h hint_rules r)
       → MatchOption o (NoRuleAt image irq hints i) (λ r. IsRuleAt image irq hints i r)
   of_hint h None there kept = record {
-    obeyed = λ g is. subst (λ x. ObeysFirst image irq hints i x hint_rules 19) (some_same h g (sym there ∙ is)) kept;
+    obeyed = λ g is. subst (λ x. ObeysFirst image irq hints i x hint_rules 19) (same_Some h g (sym there ∙ is)) kept;
     named = λ past. let inside = slice_get_within hints i h there in absurd (omega (arith, past, inside));
   }
   of_hint h (Some r) there broken = inl (record { hint = h; there = there; first = broken })
@@ -201,15 +194,15 @@ module _ (image : FinMap nat_cmp ℕ) (irq : Response) (hints : List Hint) (i : 
       by_tests false true e f = absurd (not_earlier h s r b a (grind (arith, nat_tests, f)))
       by_tests false false e f =
           let at : a.place ≡ b.place = grind (arith, nat_tests, e, f) in
-          some_same r s (sym a.there ∙ ap (slice_get hint_rules) at ∙ b.there)
+          same_Some r s (sym a.there ∙ ap (slice_get hint_rules) at ∙ b.there)
 
   one_rule : (r s : Rule) → IsRuleAt image irq hints i r → IsRuleAt image irq hints i s → r ≡ s
   one_rule r s (inl a) (inl b) =
-      let same = some_same b.hint a.hint (sym b.there ∙ a.there) in
+      let same = same_Some b.hint a.hint (sym b.there ∙ a.there) in
       same_rule a.hint r s a.first (subst (λ h. IsBroken image irq hints i h hint_rules s) same b.first)
   one_rule r s (inl a) (inr b) = let inside = slice_get_within hints i a.hint a.there in absurd (omega (arith, inside, b.0))
   one_rule r s (inr a) (inl b) = let inside = slice_get_within hints i b.hint b.there in absurd (omega (arith, inside, a.0))
-  one_rule r s (inr a) (inr b) = some_same r s (sym a.1 ∙ b.1)
+  one_rule r s (inr a) (inr b) = same_Some r s (sym a.1 ∙ b.1)
 
   no_rule : (r : Rule) → NoRuleAt image irq hints i → IsRuleAt image irq hints i r → ⊥
   no_rule r none (inl a) =
@@ -239,7 +232,7 @@ module _ (image : FinMap nat_cmp ℕ) (irq : Response) (hints : List Hint) (i : 
       where
         at_fault : (r : Rule) → IsRuleAt image irq hints i r → IsFine image irq hints i h → ⊥
         at_fault r (inl a) fine =
-            let same = some_same h a.hint (sym there ∙ a.there) in
+            let same = same_Some h a.hint (sym there ∙ a.there) in
             a.first.broken (rules_by_fine image irq hints i a.hint r (subst (λ g. IsFine image irq hints i g) same fine))
         at_fault r (inr a) fine = let inside = slice_get_within hints i h there in absurd (omega (arith, inside, a.0))
 

@@ -5,6 +5,7 @@ use Rattle.std.specs.Prelude.{Some, None, ◌&&◌, nat_eq, nat_le, nat_lt, opti
 use Rattle.std.specs.Prelude.{◌*ℤ◌}
 use Rattle.std.proofs.Math.Nat.{mod-eq_of_lt}
 use Rattle.std.proofs.lemmas.Bool.Decides.{nat_tests}
+use Rattle.std.proofs.lemmas.Bool.{and_parts}
 use Rattle.uz_schedule.specs.Ends.{Ends, one_number, whole_byte, whole_pair}
 use Rattle.uz_schedule.specs.Instances.{cell_span, clock_below, hull_at, handler_entry, span_of_val, instance_at, instance_at_clock}
 use Rattle.uz_schedule.specs.Instances.{instance_in, instance_of, is_in_box, old_from, pair_of, pairs_of, val_of}
@@ -23,10 +24,6 @@ use Rattle.uz_join.specs.Points.{byte_fact, fact_of, old_facts, pair_fact, pair_
 
 -- Facts
 
-pub both : (a b : Bool) → (a && b) ≡ true → (a ≡ true) × (b ≡ true)
-both true b e = (refl, e)
-both false b e = absurd (cc)
-
 pub ends_same : (a b : Ends) → a.lo ≡ b.lo → a.hi ≡ b.hi → a ≡ b
 ends_same a b lo hi = λ i. record { lo = lo i; hi = hi i }
 
@@ -38,7 +35,7 @@ byte_back l c e = by (nat_eq e.lo 0 && nat_eq e.hi 255) refl
   where
     by : (b : Bool) → (nat_eq e.lo 0 && nat_eq e.hi 255) ≡ b → val_of l c (if b then Any else Between e) ≡ Range e
     by true is =
-        let parts = both (nat_eq e.lo 0) (nat_eq e.hi 255) is in
+        let parts = and_parts (nat_eq e.lo 0) (nat_eq e.hi 255) is in
         ap (λ r. Range r) (ends_same whole_byte e (sym (eq_of e.lo 0 parts.0)) (sym (eq_of e.hi 255 parts.1)))
     by false is = refl
 
@@ -64,7 +61,7 @@ range_back ambiguous l regs r e = by (ambiguous && (nat_eq e.lo e.hi && nat_lt e
     by : (b : Bool) → (ambiguous && (nat_eq e.lo e.hi && nat_lt e.hi 2)) ≡ b → pair_of l 0 regs r
         (if b then LoopPair 1 e.lo else BetweenPair e) ≡ e
     by true is =
-        let small = both (nat_eq e.lo e.hi) (nat_lt e.hi 2) (both ambiguous (nat_eq e.lo e.hi && nat_lt e.hi 2) is).1 in
+        let small = and_parts (nat_eq e.lo e.hi) (nat_lt e.hi 2) (and_parts ambiguous (nat_eq e.lo e.hi && nat_lt e.hi 2) is).1 in
         let same : e.lo ≡ e.hi = eq_of e.lo e.hi small.0 in
         let few : e.hi < 2 = grind (arith, nat_tests, small) in
         let value : (1 * 0 + e.lo) % 65536 ≡ e.lo = mod-eq_of_lt (omega arith) ∙ omega arith in
@@ -77,7 +74,7 @@ pair_back ambiguous l regs r e = by (same_ends e (hull_at regs r)) refl
   where
     by : (b : Bool) → same_ends e (hull_at regs r) ≡ b → pair_of l 0 regs r (if b then AnyPair else range_fact ambiguous e) ≡ e
     by true is =
-        let parts = both (nat_eq e.lo (hull_at regs r).lo) (nat_eq e.hi (hull_at regs r).hi) is in
+        let parts = and_parts (nat_eq e.lo (hull_at regs r).lo) (nat_eq e.hi (hull_at regs r).hi) is in
         sym (ends_same e (hull_at regs r) (eq_of e.lo (hull_at regs r).lo parts.0) (eq_of e.hi (hull_at regs r).hi parts.1))
     by false is = range_back ambiguous l regs r e
 

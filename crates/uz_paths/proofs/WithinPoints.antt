@@ -6,6 +6,7 @@ use Rattle.std.proofs.lemmas.Bool.Decides.{nat_tests}
 use Rattle.std.proofs.lemmas.List.{length-map}
 use Rattle.std.proofs.lemmas.List.Elements.{All-cons, All-nil}
 use Rattle.std.proofs.lemmas.Option.{slice_get-get_or}
+use Rattle.std.proofs.lemmas.Bool.{and_parts}
 use Rattle.uz_schedule.specs.Ends.{Ends, whole_byte, whole_pair}
 use Rattle.uz_schedule.specs.Limits.{clock_limit, is_top}
 use Rattle.uz_schedule.specs.Instances.{hull_at, span_of_val, val_at}
@@ -27,10 +28,10 @@ use Rattle.uz_search.specs.declared.program.Program.{Program}
 use Rattle.uz_search.specs.Fitting.{Stands}
 use Rattle.uz_search.proofs.Lists.{of_map}
 use Rattle.uz_search.specs.Limits.{IsOpen, IsWithinLimits, OldFits}
-use Rattle.uz_paths.specs.Linked.{NamesFit}
+use Rattle.uz_paths.specs.Linked.{SuccessorsFit}
 use Rattle.uz_join.specs.Points.{AreOrdered, AreOrderedVals, IsOrdered, IsOrderedVal, byte_fact, fact_of, old_facts, pair_fact, point_of}
 use Rattle.uz_join.specs.Points.{range_fact, same_ends, vector_point}
-use Rattle.uz_paths.proofs.SameInstance.{both, ends_same, eq_of}
+use Rattle.uz_paths.proofs.SameInstance.{ends_same, eq_of}
 
 -- Elements
 
@@ -92,7 +93,7 @@ pair_fits ambiguous hull e range whole = by (same_ends e hull) refl
     not_whole : same_ends e hull ≡ false → (b : Bool) → (nat_eq e.lo 0 && nat_eq e.hi 65535) ≡ b → b ≡ false
     not_whole differ false is = refl
     not_whole differ true is =
-        let parts = both (nat_eq e.lo 0) (nat_eq e.hi 65535) is in
+        let parts = and_parts (nat_eq e.lo 0) (nat_eq e.hi 65535) is in
         let all : e ≡ whole_pair = ends_same e whole_pair (eq_of e.lo 0 parts.0) (eq_of e.hi 65535 parts.1) in
         let one : same_ends whole_pair whole_pair ≡ false = subst (λ z. same_ends whole_pair z ≡ false) (whole all)
         (subst (λ z. same_ends z hull ≡ false) all differ) in
@@ -144,7 +145,7 @@ spans_count : (cells : List Cell) (spans : List Ends) → spans_fit cells spans 
 spans_count [] [] h = refl
 spans_count [] (e ∷ spans) h = absurd (cc)
 spans_count (c ∷ cells) [] h = absurd (cc)
-spans_count (c ∷ cells) (e ∷ spans) h = ap suc (spans_count cells spans (both _ (spans_fit cells spans) h).1)
+spans_count (c ∷ cells) (e ∷ spans) h = ap suc (spans_count cells spans (and_parts _ (spans_fit cells spans) h).1)
 
 three_fit : (a b c : PairFact) → PairFits a → PairFits b → PairFits c → All PairFits (a ∷ b ∷ c ∷ [])
 three_fit a b c h k l = All-cons PairFits a (b ∷ c ∷ []) h (All-cons PairFits b (c ∷ []) k (All-cons PairFits c [] l (All-nil PairFits)))
@@ -158,7 +159,7 @@ alone_handler : Alone ≡ Handler → ⊥
 alone_handler e = cc
 
 pub own_fits : (p : Program) (count : ℕ) (x : Instance) (next : List ℕ) → Stands p x → IsWithinLimits p x
-    → x.clock < clock_limit → IsOrdered x → NamesFit count next → PointFits p.head (lines_of p) count (point_of x next)
+    → x.clock < clock_limit → IsOrdered x → SuccessorsFit count next → PointFits p.head (lines_of p) count (point_of x next)
 own_fits p count x next stands limits early ordered names = record {
   kind = kind x.kind refl;
   told = ap (λ (z : Instance). point_of z next) stands.told;
@@ -232,7 +233,7 @@ old_flags (suc n) = All-cons (BitFits Handler) OldBit (replicate n OldBit) refl 
 
 pub vector_fits : (p : Program) (count : ℕ) (cells : List Ends) (line response top : ℕ) (next : List ℕ) → line < lines_of p
     → response < clock_limit → is_top top ≡ true
-    → spans_fit (tracked p.head Handler) cells ≡ true → AreOrdered 255 cells → NamesFit count next
+    → spans_fit (tracked p.head Handler) cells ≡ true → AreOrdered 255 cells → SuccessorsFit count next
     → PointFits p.head (lines_of p) count (vector_point cells line response top next)
 vector_fits p count cells line response top next below less last fit ordered names = record {
   kind = record { top = last; temp = record { order = omega arith; high = omega arith } };

@@ -14,7 +14,7 @@ use Rattle.uz_search.specs.Returning.{SomeReturn}
 use Rattle.uz_search.specs.Limits.{IsWithinLimits}
 use Rattle.uz_paths.specs.declared.certificate.Parts.{Parts}
 use Rattle.uz_paths.specs.Kinds.{IsScheduleOf}
-use Rattle.uz_paths.specs.Linked.{ArePoints, AreNamed}
+use Rattle.uz_paths.specs.Linked.{ArePoints, PointsLead}
 use Rattle.uz_paths.specs.Numbers.{AreNumbers}
 use Rattle.uz_paths.specs.Rests.{rests_of}
 
@@ -54,7 +54,7 @@ pub record ArePartsOf (image : Flash) (p : Program) (entry : Entry) (found : Fou
       (length parts.points.items)
   pub points : ArePoints (response_clocks p.head.irq) (order_of_program p) parts.rests.items found.nodes.keys numbers
       (length parts.points.items) parts.points.items
-  pub named : AreNamed image p parts.schedule parts.rests.items found.nodes.keys numbers parts.points.items
+  pub named : PointsLead image p parts.schedule parts.rests.items found.nodes.keys numbers parts.points.items
 
 -- with the program's header
 abbrev pub cert_of : Program → Parts → Cert

@@ -3,6 +3,7 @@ pub mod Finding
 pub mod JoinedParts
 pub mod Kinds
 pub mod Linked
+pub mod Linking
 pub mod Lists
 pub mod Numbers
 pub mod Plan

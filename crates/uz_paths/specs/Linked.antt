@@ -29,7 +29,7 @@ pub record IsPointAt (points : List Point) (n : ℕ) (x : Instance) : Type 0 whe
   pub ordered : IsOrdered x
 
 -- the numbers of successors rise, and are of points that are there
-pub record NamesFit (count : ℕ) (next : List ℕ) : Type 0 where
+pub record SuccessorsFit (count : ℕ) (next : List ℕ) : Type 0 where
   pub few : length next ≤ 16
   pub there : All (λ id. id < count) next
   pub rise : IsTrue (rises next)
@@ -40,7 +40,7 @@ pub record ArePoints (response : ℕ) (lines : Lines) (rests : List Rest) (nodes
   pub size : length points ≡ count
   pub vectors : (k : ℕ) (rest : Rest) → slice_get rests k ≡ Some rest → IsVectorAt response lines points k rest
   pub own : (i n : ℕ) (x : Instance) → slice_get nodes i ≡ Some x → slice_get numbers i ≡ Some n → length rests ≤ n → IsPointAt points n x
-  pub names : (n : ℕ) (point : Point) → slice_get points n ≡ Some point → NamesFit count point.next.items
+  pub names : (n : ℕ) (point : Point) → slice_get points n ≡ Some point → SuccessorsFit count point.next.items
 
 -- the instances of a program's search have numbers, and points of these numbers
 pub record ArePointed (p : Program) (rests : List Rest) (nodes : List Instance) (numbers : List ℕ) (count : ℕ) (points : List Point)
@@ -51,7 +51,7 @@ pub record ArePointed (p : Program) (rests : List Rest) (nodes : List Instance) 
 -- a point has these successors, and says what it said
 pub record Renamed (count : ℕ) (next : List ℕ) (old new : Point) : Type 0 where
   pub is : new ≡ record old { next = record { items = next } }
-  pub fits : NamesFit count next
+  pub fits : SuccessorsFit count next
 
 -- Names
 
@@ -61,7 +61,7 @@ pub record HaveNumbers (nodes : List Instance) (numbers : List ℕ) (count : ℕ
   pub within : (i n : ℕ) → slice_get numbers i ≡ Some n → n < count
 
 -- the number of an instance is among these
-pub record HasName (nodes : List Instance) (numbers : List ℕ) (y : Instance) (next : List ℕ) : Type 0 where
+pub record HasSuccessor (nodes : List Instance) (numbers : List ℕ) (y : Instance) (next : List ℕ) : Type 0 where
   pub place : ℕ
   pub number : ℕ
   pub node : slice_get nodes place ≡ Some y
@@ -69,15 +69,15 @@ pub record HasName (nodes : List Instance) (numbers : List ℕ) (y : Instance) (
   pub named : Among next number
 
 -- up to so many further numbers: those that were there stay
-pub record NamesMore (count most : ℕ) (old new : List ℕ) : Type 0 where
+pub record AddsSuccessors (count most : ℕ) (old new : List ℕ) : Type 0 where
   pub kept : (n : ℕ) → Among old n → Among new n
   pub few : length new ≤ length old + most
-  pub fits : NamesFit count old → NamesFit count new
+  pub fits : SuccessorsFit count old → SuccessorsFit count new
 
 -- the instance's results, each widened by the facts of its program counter, have their numbers among these
-abbrev pub NamesResults : Flash → Program → List Instance → List ℕ → Instance → List ℕ → Type 0
-NamesResults image p nodes numbers x next = (result : Next) (y : Instance) → After image p x (Ok result) → result.back ≡ false
-    → Among result.out.items y → HasName nodes numbers (widened p y) next
+abbrev pub LeadsToResults : Flash → Program → List Instance → List ℕ → Instance → List ℕ → Type 0
+LeadsToResults image p nodes numbers x next = (result : Next) (y : Instance) → After image p x (Ok result) → result.back ≡ false
+    → Among result.out.items y → HasSuccessor nodes numbers (widened p y) next
 
 -- results of instances are instances, where they are widened
 abbrev pub IsClosed : Flash → Program → List Instance → Type 0
@@ -101,8 +101,8 @@ first_after p s rest c =
     (level_or_zero s (next_line s rest.line) (c + response_clocks p.head.irq)) (length_of s rest.line - 1)
 
 -- the results of a rest's first states are named
-abbrev pub NamesEntries : Flash → Program → Schedule → List Instance → List ℕ → Rest → List ℕ → Type 0
-NamesEntries image p s nodes numbers rest next = (c : ℕ) → c ≤ 3 → NamesResults image p nodes numbers (first_after p s rest c) next
+abbrev pub LeadsToEntries : Flash → Program → Schedule → List Instance → List ℕ → Rest → List ℕ → Type 0
+LeadsToEntries image p s nodes numbers rest next = (c : ℕ) → c ≤ 3 → LeadsToResults image p nodes numbers (first_after p s rest c) next
 
 -- a rest on a line of the program, whose first states by a schedule of as many lines are instances
 pub record IsEntered (p : Program) (s : Schedule) (nodes : List Instance) (rest : Rest) : Type 0 where
@@ -116,19 +116,19 @@ abbrev pub AreEntered : Program → Schedule → List Rest → List Instance →
 AreEntered p s rests nodes = (k : ℕ) (rest : Rest) → slice_get rests k ≡ Some rest → IsEntered p s nodes rest
 
 -- so many vectors name what follows them
-abbrev pub NamesVectors : Flash → Program → Schedule → List Rest → List Instance → List ℕ → ℕ → List Point → Type 0
-NamesVectors image p s rests nodes numbers done points =
-    (k : ℕ) (rest : Rest) (point : Point) → k < done → slice_get rests k ≡ Some rest → slice_get points k ≡ Some point → NamesEntries image
+abbrev pub VectorsLead : Flash → Program → Schedule → List Rest → List Instance → List ℕ → ℕ → List Point → Type 0
+VectorsLead image p s rests nodes numbers done points =
+    (k : ℕ) (rest : Rest) (point : Point) → k < done → slice_get rests k ≡ Some rest → slice_get points k ≡ Some point → LeadsToEntries image
     p s nodes numbers rest point.next.items
 
 -- of so many instances those with a point of their own name their results
-abbrev pub NamesOwn : Flash → Program → ℕ → List Instance → List ℕ → ℕ → List Point → Type 0
-NamesOwn image p vectors nodes numbers done points =
+abbrev pub NodesLead : Flash → Program → ℕ → List Instance → List ℕ → ℕ → List Point → Type 0
+NodesLead image p vectors nodes numbers done points =
     (i n : ℕ) (x : Instance) (point : Point) → i < done → slice_get nodes i ≡ Some x → slice_get numbers i ≡ Some n → vectors ≤ n
-    → slice_get points n ≡ Some point → NamesResults image p nodes numbers x point.next.items
+    → slice_get points n ≡ Some point → LeadsToResults image p nodes numbers x point.next.items
 
 -- all points name what follows them
-pub record AreNamed (image : Flash) (p : Program) (s : Schedule) (rests : List Rest) (nodes : List Instance) (numbers : List ℕ)
+pub record PointsLead (image : Flash) (p : Program) (s : Schedule) (rests : List Rest) (nodes : List Instance) (numbers : List ℕ)
     (points : List Point) : Type 0 where
-  pub vectors : NamesVectors image p s rests nodes numbers (length rests) points
-  pub own : NamesOwn image p (length rests) nodes numbers (length nodes) points
+  pub vectors : VectorsLead image p s rests nodes numbers (length rests) points
+  pub own : NodesLead image p (length rests) nodes numbers (length nodes) points

@@ -176,14 +176,7 @@ pub(crate) fn parts_of(
         plan.numbers.as_slice(),
         &entry_state(&entry, 1),
     );
-    match points_of(
-        image,
-        program,
-        &schedule,
-        rests.as_slice(),
-        nodes_of(found),
-        plan,
-    ) {
+    match points_of(rests.as_slice(), nodes_of(found), plan) {
         Ok(points) => Ok(Parts {
             schedule,
             rests,

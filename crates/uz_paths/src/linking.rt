@@ -1,13 +1,9 @@
-//! Where instances lead: the names of successors.
+//! The successors of points: the numbers of the points where instances lead.
 
-ghost use Rattle.std.specs.Prelude.{◌≡◌, ◌<◌, ◌≤◌, ◌+◌, [], IfOk, Some, false, length, slice_get};
-ghost use Rattle.uz_schedule.specs.Schedule.{response_clocks};
-ghost use Rattle.uz_schedule.specs.declared.states.Instance.{Instance};
-ghost use Rattle.uz_search.specs.Following.{Among, order_of_program};
-ghost use Rattle.uz_search.specs.Widened.{widened};
-ghost use Rattle.uz_paths.specs.Linked.{AreEntered, AreSearched, HasFew, HasName, HaveNumbers, IsEntered, NamesEntries, NamesFit};
-ghost use Rattle.uz_paths.specs.Linked.{NamesMore, NamesResults, NamesVectors, Renamed};
-ghost use Rattle.uz_paths.specs.Plan.{AreLinks, AreMade, IsPlan};
+ghost use Rattle.std.specs.Prelude.{◌≡◌, ◌<◌, ◌≤◌, IfOk, Some, length, slice_get};
+ghost use Rattle.uz_search.specs.Following.{Among};
+ghost use Rattle.uz_paths.specs.Linked.{AreEntered, AreSearched, SuccessorsFit, Renamed};
+ghost use Rattle.uz_paths.specs.Plan.{IsPlan};
 
 use crate::lists::{Lists, no_lists, put_list};
 use crate::numbers::{Numbers, numbers_of, vectors_of};
@@ -54,269 +50,218 @@ pub(crate) fn place_of(nodes: &IndexSet<Instance>, at: &Instance) -> usize
     }
 }
 
-/// Puts the number of an instance's point among others.
-fn name(
-    nodes: &IndexSet<Instance>,
-    numbers: &[u32],
+/// The instances of a search, and the numbers of their points: by these the successors of points are found.
+#[derive(Clone, Copy)]
+pub(crate) struct Linking<'a> {
+    /// The flash.
+    image: &'a Image,
+    /// The program that is searched.
+    program: &'a Program,
+    /// The instances that the search has found.
+    nodes: &'a IndexSet<Instance>,
+    /// The number of each one's point.
+    numbers: &'a [u32],
+    /// How many points there are.
     count: u32,
-    to: &Instance,
-    names: &mut ArrayVec<u32, 16>,
-)
-    requires node { Among nodes.now.keys to.now }
-    requires numbered { HaveNumbers nodes.now.keys numbers.now count }
-    requires room { length names.old.items < 16 }
-    ensures more { NamesMore count 1 names.old.items names.new.items }
-    ensures named { HasName nodes.now.keys numbers.now to.now names.new.items }
-{
-    let _ = count; // said of in the contract alone
-    let place = place_of(nodes, to);
-    put_number(names, number_at(numbers, place));
-}
-
-/// Puts the numbers of the points of results, widened by the facts of their program counters, among others.
-fn name_all(
-    program: &Program,
-    nodes: &IndexSet<Instance>,
-    numbers: &[u32],
-    count: u32,
-    results: &[Instance],
-    names: &mut ArrayVec<u32, 16>,
-)
-    requires nodes { (y : Instance) → Among results.now y → Among nodes.now.keys (widened program.now y) }
-    requires numbered { HaveNumbers nodes.now.keys numbers.now count }
-    requires room { length names.old.items + length results.now ≤ 16 }
-    ensures more { NamesMore count (length results.now) names.old.items names.new.items }
-    ensures named { (y : Instance) → Among results.now y → HasName nodes.now.keys numbers.now (widened program.now y) names.new.items }
-{
-    for to in results {
-        name(nodes, numbers, count, &widened_copy(program, to), names);
-    }
-}
-
-/// Puts the numbers of the points of what an instruction makes of an instance among others. A return names none.
-fn name_next(
-    program: &Program,
-    nodes: &IndexSet<Instance>,
-    numbers: &[u32],
-    count: u32,
-    next: &Next,
-    names: &mut ArrayVec<u32, 16>,
-)
-    requires nodes { next.now.back ≡ false → (y : Instance) → Among next.now.out.items y → Among nodes.now.keys (widened program.now y) }
-    requires numbered { HaveNumbers nodes.now.keys numbers.now count }
-    requires room { length names.old.items + length next.now.out.items ≤ 16 }
-    ensures more { NamesMore count (length next.now.out.items) names.old.items names.new.items }
-    ensures named { next.now.back ≡ false → (y : Instance) → Among next.now.out.items y
-        → HasName nodes.now.keys numbers.now (widened program.now y) names.new.items }
-{
-    if next.back {
-        return;
-    }
-    name_all(program, nodes, numbers, count, next.out.as_slice(), names);
-}
-
-/// Puts the numbers of the points where an instance leads among others, of which there are at most `most`; its results are put in place of
-/// others.
-#[tactic(auto, using(crate::proofs::MadeSchedule::length_short))]
-fn name_results(
-    image: &Image,
-    program: &Program,
-    nodes: &IndexSet<Instance>,
-    numbers: &[u32],
-    count: u32,
-    at: &Instance,
-    most: u32,
-    names: &mut ArrayVec<u32, 16>,
-    next: &mut Next,
-)
-    requires searched { AreSearched image.now program.now nodes.now.keys }
-    requires node { Among nodes.now.keys at.now }
-    requires numbered { HaveNumbers nodes.now.keys numbers.now count }
-    requires few { HasFew image.now program.now at.now most }
-    requires room { length names.old.items + most ≤ 16 }
-    ensures more { NamesMore count most names.old.items names.new.items }
-    ensures named { NamesResults image.now program.now nodes.now.keys numbers.now at.now names.new.items }
-{
-    let _ = most; // said of in the contract alone
-    match put_after(image, &program.head, &program.schedule, at, next) {
-        Ok(()) => name_next(program, nodes, numbers, count, next, names),
-        Err(_) => {}
-    }
-}
-
-/// The numbers of the points where an instance leads, whose results are put in place of others.
-fn own_names(
-    image: &Image,
-    program: &Program,
-    nodes: &IndexSet<Instance>,
-    numbers: &[u32],
-    count: u32,
-    at: &Instance,
-    next: &mut Next,
-) -> ArrayVec<u32, 16>
-    requires searched { AreSearched image.now program.now nodes.now.keys }
-    requires node { Among nodes.now.keys at.now }
-    requires numbered { HaveNumbers nodes.now.keys numbers.now count }
-    ensures fits { NamesFit count result.items }
-    ensures named { NamesResults image.now program.now nodes.now.keys numbers.now at.now result.items }
-{
-    let mut names = ArrayVec::new();
-    name_results(
-        image, program, nodes, numbers, count, at, 16, &mut names, next,
-    );
-    names
-}
-
-/// The numbers of the points where the handler's first states after a rest lead.
-fn vector_names(
-    image: &Image,
-    program: &Program,
-    schedule: &Schedule,
-    nodes: &IndexSet<Instance>,
-    numbers: &[u32],
-    count: u32,
-    rest: &Rest,
-    next: &mut Next,
-) -> ArrayVec<u32, 16>
-    requires searched { AreSearched image.now program.now nodes.now.keys }
-    requires entered { IsEntered program.now schedule.now nodes.now.keys rest.now }
-    requires numbered { HaveNumbers nodes.now.keys numbers.now count }
-    ensures fits { NamesFit count result.items }
-    ensures named { NamesEntries image.now program.now schedule.now nodes.now.keys numbers.now rest.now result.items }
-{
-    let mut names = ArrayVec::new();
-    for c in 0..4u16 {
-        let at = first_after(program, schedule, rest, c);
-        name_results(
-            image, program, nodes, numbers, count, &at, 2, &mut names, next,
-        );
-    }
-    names
 }
 
 /// Gives a point its successors.
-fn put_names(point: &mut Point, count: u32, names: ArrayVec<u32, 16>)
-    requires { NamesFit count names.items }
-    ensures { Renamed count names.items point.old point.new }
+fn set_successors(point: &mut Point, count: u32, successors: ArrayVec<u32, 16>)
+    requires { SuccessorsFit count successors.items }
+    ensures { Renamed count successors.items point.old point.new }
 {
     let _ = count; // said of in the contract alone
-    point.next = names;
+    point.next = successors;
 }
 
-/// Names the points where the handler's first states after each rest lead among the successors of their vector.
-fn link_vectors(
-    image: &Image,
-    program: &Program,
-    schedule: &Schedule,
-    rests: &[Rest],
-    nodes: &IndexSet<Instance>,
-    numbers: &[u32],
-    count: u32,
-    points: &mut [Point],
-    next: &mut Next,
-)
-    requires searched { AreSearched image.now program.now nodes.now.keys }
-    requires entered { AreEntered program.now schedule.now rests.now nodes.now.keys }
-    requires numbered { HaveNumbers nodes.now.keys numbers.now count }
-    requires size { length points.old ≡ length rests.now }
-    requires made { AreMade (response_clocks program.now.head.irq) (order_of_program program.now) rests.now [] [] count points.old }
-    ensures size { length points.new ≡ length rests.now }
-    ensures made { AreMade (response_clocks program.now.head.irq) (order_of_program program.now) rests.now [] [] count points.new }
-    ensures named { NamesVectors image.now program.now schedule.now rests.now nodes.now.keys numbers.now (length rests.now) points.new }
-{
-    for (k, rest) in rests.iter().enumerate() {
-        let names = vector_names(image, program, schedule, nodes, numbers, count, rest, next);
-        put_names(&mut points[k], count, names);
+impl Linking<'_> {
+    ghost use Rattle.std.specs.Prelude.{◌≡◌, ◌<◌, ◌≤◌, ◌+◌, [], IfOk, false, length};
+    ghost use Rattle.uz_schedule.specs.Schedule.{response_clocks};
+    ghost use Rattle.uz_schedule.specs.declared.states.Instance.{Instance};
+    ghost use Rattle.uz_search.specs.Following.{Among, order_of_program};
+    ghost use Rattle.uz_search.specs.Widened.{widened};
+    ghost use Rattle.uz_paths.specs.Linked.{SuccessorsFit, AddsSuccessors};
+    ghost use Rattle.uz_paths.specs.Linking.{AreEnteredBy, AreLinksBy, HasFewBy, HasSuccessorBy, IsEnteredBy, IsLinking, LeadsToEntriesBy};
+    ghost use Rattle.uz_paths.specs.Linking.{LeadsToResultsBy, VectorsLeadBy};
+    ghost use Rattle.uz_paths.specs.Plan.{AreMade};
+
+    /// Puts the number of an instance's point among others.
+    fn put_successor(&self, to: &Instance, successors: &mut ArrayVec<u32, 16>)
+        requires linking { IsLinking self.now }
+        requires node { Among self.now.nodes.now.keys to.now }
+        requires room { length successors.old.items < 16 }
+        ensures more { AddsSuccessors self.now.count 1 successors.old.items successors.new.items }
+        ensures named { HasSuccessorBy self.now to.now successors.new.items }
+    {
+        let place = place_of(self.nodes, to);
+        put_number(successors, number_at(self.numbers, place));
     }
-}
 
-/// The numbers of the points where an instance leads, where it has a point of its own, by its number.
-fn link_of(
-    image: &Image,
-    program: &Program,
-    rests: &[Rest],
-    nodes: &IndexSet<Instance>,
-    numbers: &[u32],
-    count: u32,
-    number: usize,
-    at: &Instance,
-    next: &mut Next,
-) -> ArrayVec<u32, 16>
-    requires searched { AreSearched image.now program.now nodes.now.keys }
-    requires node { Among nodes.now.keys at.now }
-    requires numbered { HaveNumbers nodes.now.keys numbers.now count }
-    ensures fits { NamesFit count result.items }
-    ensures named { length rests.now ≤ number → NamesResults image.now program.now nodes.now.keys numbers.now at.now result.items }
-{
-    if number >= rests.len() {
-        return own_names(image, program, nodes, numbers, count, at, next);
+    /// Puts the numbers of the points of results, widened by the facts of their program counters, among others.
+    fn put_all(&self, results: &[Instance], successors: &mut ArrayVec<u32, 16>)
+        requires linking { IsLinking self.now }
+        requires nodes { (y : Instance) → Among results.now y → Among self.now.nodes.now.keys (widened self.now.program.now y) }
+        requires room { length successors.old.items + length results.now ≤ 16 }
+        ensures more { AddsSuccessors self.now.count (length results.now) successors.old.items successors.new.items }
+        ensures named { (y : Instance) → Among results.now y → HasSuccessorBy self.now (widened self.now.program.now y) successors.new.items }
+    {
+        for to in results {
+            self.put_successor(&widened_copy(self.program, to), successors);
+        }
     }
-    ArrayVec::new()
-}
 
-/// The numbers of the points where each instance leads that has a point of its own.
-fn links_of(
-    alloc: Global,
-    image: &Image,
-    program: &Program,
-    rests: &[Rest],
-    nodes: &IndexSet<Instance>,
-    numbers: &[u32],
-    count: u32,
-    next: &mut Next,
-) -> Result<Lists, AllocError>
-    requires searched { AreSearched image.now program.now nodes.now.keys }
-    requires numbered { HaveNumbers nodes.now.keys numbers.now count }
-    requires few { length nodes.now.keys < 524288 }
-    ensures { IfOk result (λ lists. AreLinks image.now program.now (length rests.now) nodes.now.keys numbers.now count lists
-        (length nodes.now.keys)) }
-{
-    let mut links = no_lists(alloc)?;
-    for (i, at) in nodes.as_slice().iter().enumerate() {
-        let number = number_at(numbers, i) as usize;
-        let names = link_of(
-            image, program, rests, nodes, numbers, count, number, at, next,
-        );
-        put_list(&mut links, i, names.as_slice())?;
+    /// Puts the numbers of the points of what an instruction makes of an instance among others. A return has none.
+    fn put_next(&self, next: &Next, successors: &mut ArrayVec<u32, 16>)
+        requires linking { IsLinking self.now }
+        requires nodes { next.now.back ≡ false → (y : Instance) → Among next.now.out.items y
+            → Among self.now.nodes.now.keys (widened self.now.program.now y) }
+        requires room { length successors.old.items + length next.now.out.items ≤ 16 }
+        ensures more { AddsSuccessors self.now.count (length next.now.out.items) successors.old.items successors.new.items }
+        ensures named { next.now.back ≡ false → (y : Instance) → Among next.now.out.items y
+            → HasSuccessorBy self.now (widened self.now.program.now y) successors.new.items }
+    {
+        if next.back {
+            return;
+        }
+        self.put_all(next.out.as_slice(), successors);
     }
-    Ok(links)
-}
 
-/// The points of the vectors, of which each names the points where the handler's first states lead.
-fn vector_points(
-    alloc: Global,
-    image: &Image,
-    program: &Program,
-    schedule: &Schedule,
-    rests: &[Rest],
-    nodes: &IndexSet<Instance>,
-    numbers: &[u32],
-    count: u32,
-    next: &mut Next,
-) -> Result<Vec<Point>, AllocError>
-    requires searched { AreSearched image.now program.now nodes.now.keys }
-    requires entered { AreEntered program.now schedule.now rests.now nodes.now.keys }
-    requires numbered { HaveNumbers nodes.now.keys numbers.now count }
-    requires some { length rests.now ≤ count }
-    ensures size { IfOk result (λ points. length points.items ≡ length rests.now) }
-    ensures made { IfOk result (λ points. AreMade (response_clocks program.now.head.irq) (order_of_program program.now) rests.now [] []
-        count points.items) }
-    ensures named { IfOk result (λ points. NamesVectors image.now program.now schedule.now rests.now nodes.now.keys numbers.now
-        (length rests.now) points.items) }
-{
-    let mut points = vectors_of(alloc, program.head.irq, &program.schedule, rests)?;
-    link_vectors(
-        image,
-        program,
-        schedule,
-        rests,
-        nodes,
-        numbers,
-        count,
-        points.as_mut_slice(),
-        next,
-    );
-    Ok(points)
+    /// Puts the numbers of the points where an instance leads among others, of which there are at most `most`; its results are put in place
+    /// of others.
+    #[tactic(auto, using(crate::proofs::MadeSchedule::length_short))]
+    fn put_results_of(
+        &self,
+        at: &Instance,
+        most: u32,
+        successors: &mut ArrayVec<u32, 16>,
+        next: &mut Next,
+    )
+        requires linking { IsLinking self.now }
+        requires node { Among self.now.nodes.now.keys at.now }
+        requires few { HasFewBy self.now at.now most }
+        requires room { length successors.old.items + most ≤ 16 }
+        ensures more { AddsSuccessors self.now.count most successors.old.items successors.new.items }
+        ensures named { LeadsToResultsBy self.now at.now successors.new.items }
+    {
+        let _ = most; // said of in the contract alone
+        let program = self.program;
+        match put_after(self.image, &program.head, &program.schedule, at, next) {
+            Ok(()) => self.put_next(next, successors),
+            Err(_) => {}
+        }
+    }
+
+    /// The numbers of the points where an instance leads, whose results are put in place of others.
+    fn successors_of(&self, at: &Instance, next: &mut Next) -> ArrayVec<u32, 16>
+        requires linking { IsLinking self.now }
+        requires node { Among self.now.nodes.now.keys at.now }
+        ensures fits { SuccessorsFit self.now.count result.items }
+        ensures named { LeadsToResultsBy self.now at.now result.items }
+    {
+        let mut successors = ArrayVec::new();
+        self.put_results_of(at, 16, &mut successors, next);
+        successors
+    }
+
+    /// The numbers of the points where the handler's first states after a rest lead.
+    fn vector_successors(
+        &self,
+        schedule: &Schedule,
+        rest: &Rest,
+        next: &mut Next,
+    ) -> ArrayVec<u32, 16>
+        requires linking { IsLinking self.now }
+        requires entered { IsEnteredBy self.now schedule.now rest.now }
+        ensures fits { SuccessorsFit self.now.count result.items }
+        ensures named { LeadsToEntriesBy self.now schedule.now rest.now result.items }
+    {
+        let mut successors = ArrayVec::new();
+        for c in 0..4u16 {
+            let at = first_after(self.program, schedule, rest, c);
+            self.put_results_of(&at, 2, &mut successors, next);
+        }
+        successors
+    }
+
+    /// Names the points where the handler's first states after each rest lead among the successors of their vector.
+    fn link_vectors(
+        &self,
+        schedule: &Schedule,
+        rests: &[Rest],
+        points: &mut [Point],
+        next: &mut Next,
+    )
+        requires linking { IsLinking self.now }
+        requires entered { AreEnteredBy self.now schedule.now rests.now }
+        requires size { length points.old ≡ length rests.now }
+        requires made { AreMade (response_clocks self.now.program.now.head.irq) (order_of_program self.now.program.now) rests.now [] []
+            self.now.count points.old }
+        ensures size { length points.new ≡ length rests.now }
+        ensures made { AreMade (response_clocks self.now.program.now.head.irq) (order_of_program self.now.program.now) rests.now [] []
+            self.now.count points.new }
+        ensures named { VectorsLeadBy self.now schedule.now rests.now (length rests.now) points.new }
+    {
+        for (k, rest) in rests.iter().enumerate() {
+            let successors = self.vector_successors(schedule, rest, next);
+            set_successors(&mut points[k], self.count, successors);
+        }
+    }
+
+    /// The numbers of the points where an instance leads, where it has a point of its own, by its number.
+    fn link_of(
+        &self,
+        rests: &[Rest],
+        number: usize,
+        at: &Instance,
+        next: &mut Next,
+    ) -> ArrayVec<u32, 16>
+        requires linking { IsLinking self.now }
+        requires node { Among self.now.nodes.now.keys at.now }
+        ensures fits { SuccessorsFit self.now.count result.items }
+        ensures named { length rests.now ≤ number → LeadsToResultsBy self.now at.now result.items }
+    {
+        if number >= rests.len() {
+            return self.successors_of(at, next);
+        }
+        ArrayVec::new()
+    }
+
+    /// The numbers of the points where each instance leads that has a point of its own.
+    fn links_of(&self, alloc: Global, rests: &[Rest], next: &mut Next) -> Result<Lists, AllocError>
+        requires linking { IsLinking self.now }
+        requires few { length self.now.nodes.now.keys < 524288 }
+        ensures { IfOk result (λ lists. AreLinksBy self.now (length rests.now) lists (length self.now.nodes.now.keys)) }
+    {
+        let mut links = no_lists(alloc)?;
+        for (i, at) in self.nodes.as_slice().iter().enumerate() {
+            let number = number_at(self.numbers, i) as usize;
+            let successors = self.link_of(rests, number, at, next);
+            put_list(&mut links, i, successors.as_slice())?;
+        }
+        Ok(links)
+    }
+
+    /// The points of the vectors, of which each names the points where the handler's first states lead.
+    fn vector_points(
+        &self,
+        alloc: Global,
+        schedule: &Schedule,
+        rests: &[Rest],
+        next: &mut Next,
+    ) -> Result<Vec<Point>, AllocError>
+        requires linking { IsLinking self.now }
+        requires entered { AreEnteredBy self.now schedule.now rests.now }
+        requires some { length rests.now ≤ self.now.count }
+        ensures size { IfOk result (λ points. length points.items ≡ length rests.now) }
+        ensures made { IfOk result (λ points. AreMade (response_clocks self.now.program.now.head.irq)
+            (order_of_program self.now.program.now) rests.now [] [] self.now.count points.items) }
+        ensures named { IfOk result (λ points. VectorsLeadBy self.now schedule.now rests.now (length rests.now) points.items) }
+    {
+        let program = self.program;
+        let mut points = vectors_of(alloc, program.head.irq, &program.schedule, rests)?;
+        self.link_vectors(schedule, rests, points.as_mut_slice(), next);
+        Ok(points)
+    }
 }
 
 /// The numbers of the points of all instances, where each leads, and the points of the vectors.
@@ -343,27 +288,15 @@ pub(crate) fn plan_of(
         rests,
         nodes.as_slice(),
     )?;
-    let points = vector_points(
-        alloc,
+    let linking = Linking {
         image,
         program,
-        schedule,
-        rests,
         nodes,
-        of.as_slice(),
+        numbers: of.as_slice(),
         count,
-        &mut next,
-    )?;
-    let links = links_of(
-        alloc,
-        image,
-        program,
-        rests,
-        nodes,
-        of.as_slice(),
-        count,
-        &mut next,
-    )?;
+    };
+    let points = linking.vector_points(alloc, schedule, rests, &mut next)?;
+    let links = linking.links_of(alloc, rests, &mut next)?;
     Ok(Plan {
         numbers: of,
         count,

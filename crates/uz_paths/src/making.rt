@@ -1,19 +1,16 @@
 //! Points made of instances, each of which is let go when its point is there.
 
 ghost use Rattle.std.specs.Prelude.{◌≡◌, ◌<◌, ◌≤◌, ◌++◌, ◌∷◌, [], ℕ, List, IfOk, OnOk, length};
-ghost use Rattle.uz_paths.specs.Linked.{AreNamed, ArePointed};
 ghost use Rattle.uz_paths.specs.Lists.{HasListAt, IsListAt};
-ghost use Rattle.uz_paths.specs.Plan.{IsPlan};
+ghost use Rattle.uz_paths.specs.Plan.{ByAnyPlan, HavePoints};
 ghost use Rattle.uz_join.specs.Points.{IsOrdered, point_of as point_for};
 
 use crate::linking::Plan;
 use crate::lists::{Lists, list_at};
 use indexmap::IndexSet;
 use std::alloc::AllocError;
-use uz_hex::Image;
 use uz_join::point_of;
-use uz_schedule::{Instance, Point, Rest, Schedule};
-use uz_search::Program;
+use uz_schedule::{Instance, Point, Rest};
 
 /// How often memory is given back while instances are let go: each time costs as much as there are instances left.
 const TIMES: usize = 128;
@@ -61,26 +58,19 @@ fn put_point(
     Ok(())
 }
 
-/// Puts the points of instances behind those of the vectors, by their plan, and lets each instance go.
+/// Puts the points of instances behind those of the vectors, by their numbers and where each leads, and lets each instance go.
 fn put_points(
-    image: &Image,
-    program: &Program,
-    schedule: &Schedule,
     rests: &[Rest],
     numbers: &[u32],
-    count: u32,
     links: &Lists,
     nodes: &mut IndexSet<Instance>,
     points: &mut Vec<Point>,
 ) -> Result<(), AllocError>
-    requires { IsPlan image.now program.now schedule.now rests.now nodes.old.keys numbers.now count links.now points.old.items }
-    ensures pointed { OnOk result (ArePointed program.now rests.now nodes.old.keys numbers.now count points.new.items) }
-    ensures named { OnOk result (AreNamed image.now program.now schedule.now rests.now nodes.old.keys numbers.now points.new.items) }
+    requires lengths { length numbers.now ≡ length nodes.old.keys }
+    requires linked { (i : ℕ) → i < length nodes.old.keys → HasListAt links.now i }
+    ensures { OnOk result (ByAnyPlan rests.now nodes.old.keys numbers.now links.now points.old.items
+        (λ image p s count. HavePoints image p s rests.now nodes.old.keys numbers.now count points.new.items)) }
 {
-    let _ = image; // said of in the contract alone
-    let _ = program; // said of in the contract alone
-    let _ = schedule; // said of in the contract alone
-    let _ = count; // said of in the contract alone
     let every = numbers.len() / TIMES + 1;
     nodes.reverse();
     for (i, number) in numbers.iter().enumerate() {
@@ -92,24 +82,20 @@ fn put_points(
 
 /// The points of instances, by their plan.
 pub(crate) fn points_of(
-    image: &Image,
-    program: &Program,
-    schedule: &Schedule,
     rests: &[Rest],
     nodes: IndexSet<Instance>,
     plan: Plan,
 ) -> Result<Vec<Point>, AllocError>
-    requires { IsPlan image.now program.now schedule.now rests.now nodes.keys plan.numbers.items plan.count plan.links plan.points.items }
-    ensures pointed { IfOk result (λ points. ArePointed program.now rests.now nodes.keys plan.numbers.items (length points.items)
-        points.items) }
-    ensures named { IfOk result (λ points. AreNamed image.now program.now schedule.now rests.now nodes.keys plan.numbers.items
-        points.items) }
+    requires lengths { length plan.numbers.items ≡ length nodes.keys }
+    requires linked { (i : ℕ) → i < length nodes.keys → HasListAt plan.links i }
+    ensures { IfOk result (λ points. ByAnyPlan rests.now nodes.keys plan.numbers.items plan.links plan.points.items
+        (λ image p s count. HavePoints image p s rests.now nodes.keys plan.numbers.items (length points.items) points.items)) }
 {
     let Plan {
         numbers,
-        count,
         links,
         mut points,
+        ..
     } = plan;
     let mut left = nodes;
     if let Err(AllocError) = points.reserve_exact(numbers.len()) {
@@ -119,17 +105,7 @@ pub(crate) fn points_of(
         drop(points);
         return Err(AllocError);
     }
-    let put = put_points(
-        image,
-        program,
-        schedule,
-        rests,
-        numbers.as_slice(),
-        count,
-        &links,
-        &mut left,
-        &mut points,
-    );
+    let put = put_points(rests, numbers.as_slice(), &links, &mut left, &mut points);
     drop(left);
     drop(numbers);
     drop(links);

@@ -1,12 +1,13 @@
-use Rattle.std.proofs.Common.{◌∙◌, List, Some, ap, length, subst, sym, ℕ}
+use Rattle.std.proofs.Common.{◌<◌, ◌∙◌, List, Some, ap, length, subst, sym, ℕ}
 use Rattle.std.specs.Prelude.{slice_get}
 use Rattle.uz_schedule.specs.Instances.{entry_instance_at}
 use Rattle.uz_schedule.specs.declared.states.Instance.{Instance}
 use Rattle.uz_schedule.specs.declared.states.Rest.{Rest}
 use Rattle.uz_search.specs.Following.{Among}
-use Rattle.uz_paths.specs.Linked.{AreEntered, AreNamed, ArePointed}
-use Rattle.uz_paths.specs.Plan.{IsPlan}
+use Rattle.uz_paths.specs.Linked.{AreEntered}
+use Rattle.uz_paths.specs.Plan.{HavePoints, IsPlan}
 use Rattle.uz_paths.specs.Rests.{rests_of}
+use Rattle.uz_paths.proofs.MakeLemmas.{link_there}
 use Rattle.uz_paths.proofs.RestLemmas.{few_in_frame, few_returns}
 use Rattle.uz_paths.proofs.certificate.parts_of.Goals as goal
 
@@ -30,14 +31,13 @@ number_of-id-requires-clause-node c =
     subst (λ (x : Instance). Among c.args.found.nodes.keys x) (sym c.entry_state.ensures)
     (c.requires.ended.started (entry_instance_at c.args.entry 1) c.requires.start)
 
-pub points_of-requires : goal.points_of-requires
-points_of-requires c =
-    let plan = c.in-Ok-plan_of.plan in
-    subst (λ (nodes : List Instance). IsPlan c.args.image.now c.args.program.now c.in-Ok.schedule c.as_slice-4.result.now nodes
-    plan.numbers.items plan.count plan.links plan.points.items) (sym (ap (λ nodes. nodes.keys) c.nodes_of.ensures))
-    (subst (λ (rests : List Rest). IsPlan c.args.image.now c.args.program.now c.in-Ok.schedule rests c.args.found.nodes.keys
-    plan.numbers.items plan.count plan.links plan.points.items) (c.as_slice-2.ensures.value ∙ sym c.as_slice-4.ensures.value)
-    c.in-Ok-plan_of.ensures)
+pub points_of-requires-clause-lengths : goal.points_of-requires-clause-lengths
+points_of-requires-clause-lengths c =
+    c.in-Ok-plan_of.ensures.numbered.lengths ∙ ap (λ nodes. length nodes.keys) (sym c.nodes_of.ensures)
+
+pub points_of-requires-clause-linked : goal.points_of-requires-clause-linked
+points_of-requires-clause-linked c = λ i less.
+    link_there _ _ _ _ _ _ _ _ _ i c.in-Ok-plan_of.ensures (subst (λ n. i < n) (ap (λ nodes. length nodes.keys) c.nodes_of.ensures) less)
 
 pub returns-in-Ok-points_of : goal.returns-in-Ok-points_of
 returns-in-Ok-points_of c =
@@ -45,10 +45,18 @@ returns-in-Ok-points_of c =
     let points = c.in-Ok-points_of.points.items in
     let of_found = ap (λ nodes. nodes.keys) c.nodes_of.ensures in
     let numbers = plan.numbers.items in
-    let pointed = subst (λ (nodes : List Instance). ArePointed c.args.program.now c.in-Ok-rests_of.rests.items nodes numbers (length points)
-    points) of_found
-    (subst (λ (rests : List Rest). ArePointed c.args.program.now rests c.nodes_of.result.keys numbers (length points) points)
-    c.as_slice-4.ensures.value c.in-Ok-points_of.ensures.pointed) in
+    let image = c.args.image.now in
+    let p = c.args.program.now in
+    let s = c.in-Ok.schedule in
+    let planned =
+    subst (λ (nodes : List Instance). IsPlan image p s c.as_slice-4.result.now nodes numbers plan.count plan.links plan.points.items)
+    (sym of_found)
+    (subst (λ (rests : List Rest). IsPlan image p s rests c.args.found.nodes.keys numbers plan.count plan.links plan.points.items)
+    (c.as_slice-2.ensures.value ∙ sym c.as_slice-4.ensures.value) c.in-Ok-plan_of.ensures) in
+    let made =
+    subst (λ (nodes : List Instance). HavePoints image p s c.in-Ok-rests_of.rests.items nodes numbers (length points) points) of_found
+    (subst (λ (rests : List Rest). HavePoints image p s rests c.nodes_of.result.keys numbers (length points) points)
+    c.as_slice-4.ensures.value (c.in-Ok-points_of.ensures image p s plan.count planned)) in
     record {
       schedule = c.in-Ok.ensures.made;
       rests = c.in-Ok-rests_of.ensures ∙ ap rests_of c.as_slice.ensures.value;
@@ -60,12 +68,9 @@ returns-in-Ok-points_of c =
         is = ap (λ (ns : List ℕ). slice_get ns c.number_of-id.ensures.place) (sym c.as_slice-3.ensures.value)
             ∙ (c.number_of-id.ensures.is ∙ (λ i. Some (sym c.with_id.ensures i).id));
       };
-      numbered = pointed.numbered;
-      points = pointed.made;
-      named = subst (λ (nodes : List Instance). AreNamed c.args.image.now c.args.program.now c.in-Ok.schedule c.in-Ok-rests_of.rests.items
-          nodes numbers points) of_found
-          (subst (λ (rests : List Rest). AreNamed c.args.image.now c.args.program.now c.in-Ok.schedule rests c.nodes_of.result.keys numbers
-          points) c.as_slice-4.ensures.value c.in-Ok-points_of.ensures.named);
+      numbered = made.pointed.numbered;
+      points = made.pointed.made;
+      named = made.named;
     }
 
 pub number_of-id-requires-clause-lengths : goal.number_of-id-requires-clause-lengths
