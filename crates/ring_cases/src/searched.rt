@@ -13,11 +13,11 @@ use std::alloc::{AllocError, Global};
 use std::collections::BTreeMap;
 use table_rows::Row;
 use uz_hex::Image;
-use uz_transfer::Fail;
 use uz_schedule::{
     EventKind, Head, Instance, Kind, LineEvents, Response, SCANLINE, Schedule, Sequence, Span, Val,
 };
 use uz_search::{Found, NotFound, Program, search};
+use uz_transfer::Fail;
 
 /// OUT PORTB,r16; OUT PORTB,r17; DEC r18, BRNE to it, twice; LDI r18,94; DEC r18, BRNE to it; RJMP to the begin. So many
 /// clocks are 2 + 767 + 767 + 1 + 281 + 2.

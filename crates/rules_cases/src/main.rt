@@ -17,8 +17,8 @@ use sum::Sum;
 use table::{Table, is_on_line, set_word};
 use uz_hex::Image;
 use uz_rules::{Next, after};
-use uz_transfer::Fail;
 use uz_schedule::{Head, Instance, Kind, Schedule};
+use uz_transfer::Fail;
 
 /// How many instances are drawn.
 const DRAWS: u32 = 100_000;

@@ -6,8 +6,8 @@
 
 use anyhow::Result;
 use uz_rules::Next;
-use uz_transfer::Fail;
 use uz_schedule::{Bit, EventKind, Instance, Span, Val, Wide};
+use uz_transfer::Fail;
 
 /// Tells a reason, or that there is none.
 pub(crate) fn tell_reason(rt: &HostRuntime, answer: std::result::Result<(), Fail>) -> Result<()> {

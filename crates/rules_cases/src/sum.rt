@@ -1,8 +1,8 @@
 //! Sums an answer up, number by number.
 
 use uz_rules::Next;
-use uz_transfer::Fail;
 use uz_schedule::{Bit, EventKind, Instance, Span, Val, Wide};
+use uz_transfer::Fail;
 
 /// A sum over numbers in their order.
 #[derive(Drop)]

@@ -11,8 +11,8 @@ use uz_console::{Console, Turn};
 use uz_core::{Edge, effect};
 use uz_hex::Image;
 use uz_rules::{Next, after};
-use uz_transfer::{Fail, main_emits};
 use uz_schedule::{Head, Instance, Kind, MOST_LINES, SCANLINE, Schedule};
+use uz_transfer::{Fail, main_emits};
 
 /// How a trial ends.
 #[derive(Clone, Copy, Debug)]

@@ -21,7 +21,9 @@ ghost use Rattle.uz_check.specs.ReturnTimes.{ReturnsHold};
 ghost use Rattle.uz_check.specs.Steady.{IsSteady};
 ghost use Rattle.uz_check.specs.Ways.{EveryTurnGoes, MainsTimeHolds};
 
-use uz_rules::{alone_contained, handler_contained, lies_in_point_tells, main_contained, state_inside};
+use uz_rules::{
+    alone_contained, handler_contained, lies_in_point_tells, main_contained, state_inside,
+};
 
 /// What is accepted is certified: every run from a state that meets the entry condition keeps to the schedule. The entry
 /// condition gives the invariant, each turn keeps it and says which way it goes (entry, return, main, handler, alone), so

@@ -15,8 +15,8 @@ use avr_table::{Instr, words};
 use itoa::Buffer;
 use std::alloc::{AllocError, Global};
 use uz_hex::{Image, word_digits};
-use uz_transfer::word_after;
 use uz_schedule::{Instance, Kind};
+use uz_transfer::word_after;
 
 /// Puts a name and a number behind a text.
 pub(crate) fn put_number(text: &mut Vec<u8>, name: &[u8], number: u64) -> Result<(), AllocError>

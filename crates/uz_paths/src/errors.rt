@@ -15,8 +15,8 @@ use avr_asm::Hint;
 use avr_decode::decode;
 use avr_table::Instr;
 use uz_hex::{FLASH_WORDS, Image};
-use uz_transfer::word_after;
 use uz_schedule::{CLOCK_LIMIT, HALF_LINE, Kind, MOST_LINES, Response};
+use uz_transfer::word_after;
 
 /// The lowest and the highest address of RAM in the data space (ATmega644 data sheet).
 pub(crate) const RAM: (u16, u16) = (256, 4351);

@@ -5,8 +5,8 @@ ghost use Rattle.uz_schedule.specs.Limits.{ScheduleFits};
 ghost use Rattle.uz_schedule.specs.Schedule.{scanline, event_at};
 ghost use Rattle.uz_rules.specs.EdgeRule.{position_of, is_kind, is_event, is_quiet, emits_as_scheduled, edges_fit};
 
-use uz_transfer::Exit;
 use uz_schedule::{EventKind, Instance, Schedule};
+use uz_transfer::Exit;
 
 /// Whether two events are one.
 fn is_kind(a: EventKind, b: EventKind) -> bool

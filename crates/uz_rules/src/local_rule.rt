@@ -18,12 +18,12 @@ use crate::edge_rule::edges_fit;
 use crate::inclusion::{cells_inside, restored};
 use crate::successors::lies_in_any;
 use crate::visit::Visit;
-use uz_transfer::{Exit, Fail, Step, main_emits, put_at, put_step, word_after};
 use avr_decode::decode;
 use avr_table::Instr;
 use uz_core::Effect;
 use uz_hex::Image;
 use uz_schedule::{Cert, EventKind, Instance, Kind, Point, Rest};
+use uz_transfer::{Exit, Fail, Step, main_emits, put_at, put_step, word_after};
 
 /// The reason, where it stands, else the later one.
 fn refuse_if(stands: bool, why: Fail, later: Option<Fail>) -> Option<Fail>

@@ -10,10 +10,10 @@ ghost use Rattle.uz_rules.specs.After.{timed, next_of, IsAfter};
 
 use crate::local_rule::first_exit;
 use crate::next::Next;
-use uz_transfer::{Exit, Fail, Step, abstract_step, copied, put_at};
 use arrayvec::ArrayVec;
 use uz_hex::Image;
 use uz_schedule::{EventKind, Head, Instance, Schedule};
+use uz_transfer::{Exit, Fail, Step, abstract_step, copied, put_at};
 
 /// What is emitted, with its clock.
 fn timed(emitted: Option<EventKind>, clocks: u8) -> Option<(u8, EventKind)>

@@ -11,11 +11,11 @@ use crate::growing::{Growing, growing_of};
 use crate::local_rule::{answer, count, instance_fail, is_stop, point_of, read_at};
 use crate::moving::move_to;
 use crate::place::place_of;
-use uz_transfer::{Fail, Step};
 use avr_table::Instr;
 use uz_core::effect;
 use uz_hex::Image;
 use uz_schedule::{Cert, Instance, Point};
+use uz_transfer::{Fail, Step};
 
 /// What the local rule keeps of a point while its instances are asked one after another.
 #[derive(Drop)]
@@ -93,43 +93,6 @@ fn come_to(visit: &mut Visit, cert: &Cert, id: u32, point: &Point, l: u16, c: u8
     }
 }
 
-/// Why a line and a count of a point are refused, under the point's instruction.
-fn row_fail(
-    visit: &mut Visit,
-    image: &Image,
-    cert: &Cert,
-    id: u32,
-    point: &Point,
-    l: u16,
-    c: u8,
-    i: &Instr,
-) -> Option<Fail>
-    requires fits { WellFormed cert.now }
-    requires point { slice_get cert.now.points id ≡ Some point.now }
-    requires keeps { Keeps point.now visit.old }
-    ensures why { result ≡ local_fail image.now cert.now point.now.next.items (Some i.now) (instance_at cert.now id l c) }
-    ensures keeps { Keeps point.now visit.new }
-    ensures row { visit.new.row ≡ visit.old.row }
-{
-    let e = effect(i);
-    if is_stop(e) {
-        return Some(Fail::Opcode);
-    }
-    if come_to(visit, cert, id, point, l, c) {
-        instance_fail(
-            image,
-            cert,
-            point.next.as_slice(),
-            i,
-            e,
-            &visit.at,
-            &mut visit.step,
-        )
-    } else {
-        Some(Fail::Box)
-    }
-}
-
 /// Why a line and a count of a point are refused, under the instruction that is read.
 fn visit_fail(
     visit: &mut Visit,
@@ -147,9 +110,25 @@ fn visit_fail(
     ensures keeps { Keeps point.now visit.new }
     ensures row { visit.new.row ≡ visit.old.row }
 {
-    match visit.row {
-        Some(i) => row_fail(visit, image, cert, id, point, l, c, &i),
-        None => Some(Fail::Opcode),
+    let Some(i) = visit.row else {
+        return Some(Fail::Opcode);
+    };
+    let e = effect(&i);
+    if is_stop(e) {
+        return Some(Fail::Opcode);
+    }
+    if come_to(visit, cert, id, point, l, c) {
+        instance_fail(
+            image,
+            cert,
+            point.next.as_slice(),
+            &i,
+            e,
+            &visit.at,
+            &mut visit.step,
+        )
+    } else {
+        Some(Fail::Box)
     }
 }
 

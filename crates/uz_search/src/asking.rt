@@ -20,8 +20,8 @@ use crate::stuck::stuck;
 use std::alloc::AllocError;
 use uz_hex::Image;
 use uz_rules::Next;
-use uz_transfer::Fail;
 use uz_schedule::{Instance, Kind};
+use uz_transfer::Fail;
 
 /// Why an instance ends the search.
 #[derive(Drop)]

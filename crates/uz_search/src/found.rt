@@ -6,8 +6,8 @@ use crate::returns::Return;
 use crate::ways::Ways;
 use indexmap::IndexSet;
 use std::alloc::AllocError;
-use uz_transfer::Fail;
 use uz_schedule::{Instance, Sequence};
+use uz_transfer::Fail;
 
 /// Why no certificate is found.
 #[derive(Drop)]

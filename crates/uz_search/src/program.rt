@@ -17,8 +17,8 @@ use std::alloc::{AllocError, Global};
 use std::collections::BTreeMap;
 use uz_hex::Image;
 use uz_rules::{Next, put_after};
-use uz_transfer::{Fail, copied};
 use uz_schedule::{Head, Instance, Schedule, Sequence, handler_entry};
+use uz_transfer::{Fail, copied};
 
 /// What a search is told of a program, beside its image.
 #[derive(Drop)]

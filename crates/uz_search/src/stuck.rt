@@ -20,8 +20,8 @@ use avr_table::Instr;
 use uz_core::effect;
 use uz_hex::Image;
 use uz_rules::{Next, restored};
-use uz_transfer::{Fail, main_emits, word_after};
 use uz_schedule::{EventKind, Instance, Kind};
+use uz_transfer::{Fail, main_emits, word_after};
 
 /// Whether an instance is of main.
 pub(crate) fn is_main(at: &Instance) -> bool

@@ -7,8 +7,8 @@ ghost use Rattle.uz_search.specs.Following.{Flash};
 ghost use Rattle.uz_search.specs.Trails.{IsTrail, AreParents, ComeEarlier};
 
 use std::alloc::{AllocError, Global};
-use uz_transfer::copied;
 use uz_schedule::{Instance, Sequence};
+use uz_transfer::copied;
 
 /// The node at a place.
 pub(crate) fn node_at(nodes: &[Instance], at: usize) -> &Instance

@@ -1,5 +1,5 @@
 use Rattle.uz_rules.proofs.VisitLaws.{there_limits}
-use Rattle.uz_rules.proofs.visit.row_fail.Goals as goal
+use Rattle.uz_rules.proofs.visit.visit_fail.Goals as goal
 
 pub instance_fail-requires-clause-limits : goal.instance_fail-requires-clause-limits
 instance_fail-requires-clause-limits c =
