@@ -10,8 +10,8 @@ ghost use Rattle.uz_files.specs.Endings.{EndsBy};
 ghost use Rattle.uz_files.specs.Reading.{Fails, text_limit};
 ghost use Rattle.uz_files.specs.Formats.{RefusesSource};
 
-use crate::search_lines::not_found;
-use crate::verdict_lines::accepted;
+use crate::search_lines::not_found_line;
+use crate::verdict_lines::accepted_line;
 use avr_asm::Built;
 use std::alloc::{AllocError, Global};
 use uz_cert::{Cert, text_is_unique, write_cert};
@@ -44,7 +44,7 @@ fn pair_of(alloc: Global, image: &Image, cert: &Cert) -> Result<Found, AllocErro
 {
     let hex = write_hex(alloc, image)?;
     let text = write_cert(alloc, cert)?;
-    let line = accepted(alloc, cert)?;
+    let line = accepted_line(alloc, cert)?;
     Ok(Found::Pair {
         hex,
         cert: text,
@@ -66,7 +66,7 @@ fn search_built(alloc: Global, built: &Built, irq: Response) -> Result<Found, Fa
         }
         Err(NotFound::Memory) => Err(Failure::Memory),
         Err(why) => {
-            let line = not_found(alloc, &why);
+            let line = not_found_line(alloc, &why);
             drop(why);
             Ok(Found::Refusal { line: line? })
         }

@@ -6,8 +6,8 @@ ghost use Rattle.uz_certificate_commands.specs.DemoCommand.{Assembles};
 ghost use Rattle.uz_certificate_commands.specs.DemoValues.{IsPrepared, IsSearched, IsStart};
 ghost use Rattle.uz_schedule.specs.WellFormed.{WellFormed};
 
-use crate::search_lines::not_found;
-use crate::verdict_lines::accepted;
+use crate::search_lines::not_found_line;
+use crate::verdict_lines::accepted_line;
 use avr_asm::{Built, assemble};
 use std::alloc::{AllocError, Global};
 use uz_console::{Console, reset_is_in_range};
@@ -34,7 +34,7 @@ pub(crate) enum Start {
 /// The assembled source of a demo. That each of these sources has an assembly isn't proved: where one had none, the
 /// answer would be want of memory.
 #[tactic(auto, using(uz_files::proofs::HintCount::few_hints))]
-fn assembled(alloc: Global, number: u16) -> Result<Built, AllocError>
+fn assemble_demo(alloc: Global, number: u16) -> Result<Built, AllocError>
     ensures assembles { IfOk result (λ built. Assembles number (seen_built built)) }
     ensures few { IfOk result (λ built. length built.hints.items < 2 ^ 32) }
 {
@@ -46,13 +46,13 @@ fn assembled(alloc: Global, number: u16) -> Result<Built, AllocError>
 }
 
 /// Resets a console with an image, and makes the line of its certificate.
-fn prepared(alloc: Global, image: Image, cert: Cert) -> Result<Start, AllocError>
+fn reset_demo(alloc: Global, image: Image, cert: Cert) -> Result<Start, AllocError>
     requires { WellFormed cert }
     ensures { IfOk result (IsPrepared image cert) }
 {
     image.is_flash();
     reset_is_in_range();
-    let line = match accepted(alloc, &cert) {
+    let line = match accepted_line(alloc, &cert) {
         Ok(line) => line,
         Err(error) => {
             drop(image);
@@ -74,18 +74,18 @@ fn prepared(alloc: Global, image: Image, cert: Cert) -> Result<Start, AllocError
 }
 
 /// Searches for a certificate of an assembled source.
-fn searched(alloc: Global, built: Built) -> Result<Start, AllocError>
+fn search(alloc: Global, built: Built) -> Result<Start, AllocError>
     requires { length built.hints.items < 2 ^ 32 }
     ensures { IfOk result (IsSearched built.image built.hints.items) }
 {
     match find(alloc, &built.image, built.hints.as_slice(), Response::Four) {
-        Ok(cert) => prepared(alloc, built.image, cert),
+        Ok(cert) => reset_demo(alloc, built.image, cert),
         Err(NotFound::Memory) => {
             drop(built);
             Err(AllocError)
         }
         Err(why) => {
-            let line = not_found(alloc, &why);
+            let line = not_found_line(alloc, &why);
             drop(why);
             drop(built);
             Ok(Start::Refusal { line: line? })
@@ -97,6 +97,6 @@ fn searched(alloc: Global, built: Built) -> Result<Start, AllocError>
 pub(crate) fn start_demo(alloc: Global, number: u16) -> Result<Start, AllocError>
     ensures { IfOk result (IsStart number) }
 {
-    let built = assembled(alloc, number)?;
-    searched(alloc, built)
+    let built = assemble_demo(alloc, number)?;
+    search(alloc, built)
 }

@@ -10,8 +10,8 @@ ghost use Rattle.uz_certificate_commands.specs.FindValues.{IsFoundFor, IsSoughtF
 ghost use Rattle.uz_certificate_commands.specs.HintedValues.{HintedFails};
 
 use crate::hinted::read_hinted;
-use crate::search_lines::not_found;
-use crate::verdict_lines::accepted;
+use crate::search_lines::not_found_line;
+use crate::verdict_lines::accepted_line;
 use avr_asm::Hint;
 use std::alloc::{AllocError, Global};
 use uz_cert::{Cert, text_is_unique, write_cert};
@@ -39,7 +39,7 @@ fn work_of(alloc: Global, cert: &Cert) -> Result<Work, AllocError>
     text_is_unique();
     Ok(Work {
         text: write_cert(alloc, cert)?,
-        line: accepted(alloc, cert)?,
+        line: accepted_line(alloc, cert)?,
     })
 }
 
@@ -57,7 +57,7 @@ fn search(alloc: Global, image: &Image, hints: &[Hint], irq: Response) -> Result
         }
         Err(NotFound::Memory) => Err(Failure::Memory),
         Err(why) => {
-            let line = not_found(alloc, &why);
+            let line = not_found_line(alloc, &why);
             drop(why);
             Ok(Sought::Refusal(Ending {
                 status: Status::Refused,

@@ -19,7 +19,7 @@ use uz_schedule::Cert;
 use uz_shelf::{Shelf, Sink};
 
 /// The line of a certificate that is written anew.
-pub(crate) fn migrated(alloc: Global, cert: &Cert) -> Result<Vec<u8>, AllocError>
+pub(crate) fn migrated_line(alloc: Global, cert: &Cert) -> Result<Vec<u8>, AllocError>
     ensures { IfOk result (λ line. line.items ≡ migrated_line cert.now) }
 {
     number_line(alloc, b"migrated points ", cert.points.len() as u64)
@@ -33,7 +33,7 @@ fn work_of(alloc: Global, cert: &Cert) -> Result<Work, AllocError>
     text_is_unique();
     Ok(Work {
         text: write_cert(alloc, cert)?,
-        line: migrated(alloc, cert)?,
+        line: migrated_line(alloc, cert)?,
     })
 }
 

@@ -9,7 +9,7 @@ ghost use Rattle.uz_certificate_commands.specs.CheckedValues.{AreChecked, IsChec
 ghost use Rattle.uz_certificate_commands.specs.PairFiles.{PairPreface};
 ghost use Rattle.uz_certificate_commands.specs.VerdictLines.{refused_line};
 
-use crate::verdict_lines::refused;
+use crate::verdict_lines::refused_line;
 use std::alloc::{AllocError, Global};
 use uz_check::{Accepted, Refused, check, verdict_is_unique};
 use uz_files::{CertificateText, Ending, Failure, HexText, Status, read_file};
@@ -27,10 +27,10 @@ pub enum Checked {
 }
 
 /// What ends the command of a pair that is refused.
-fn refusal(alloc: Global, pair: Refused) -> Result<Ending, AllocError>
+pub(crate) fn refusal(alloc: Global, pair: Refused) -> Result<Ending, AllocError>
     ensures { IfOk result (λ ending. answer_of ending ≡ one_line Status.Refused (refused_line pair.cert pair.why)) }
 {
-    let line = refused(alloc, &pair.cert, pair.why);
+    let line = refused_line(alloc, &pair.cert, pair.why);
     drop(pair);
     Ok(Ending {
         status: Status::Refused,

@@ -6,11 +6,11 @@ ghost use Rattle.uz_shelf.specs.Faults.{Rose};
 ghost use Rattle.uz_files.specs.Endings.{EndsBy};
 ghost use Rattle.uz_certificate_commands.specs.PlayValues.{IsChecked, IsStart, PlayPreface};
 
-use crate::verdict_lines::refused;
+use crate::pair::refusal;
 use std::alloc::{AllocError, Global};
 use uz_check::check;
 use uz_console::{Console, reset_is_in_range};
-use uz_files::{CertificateText, Ending, Failure, HexText, PadWords, Status, read_file};
+use uz_files::{CertificateText, Ending, Failure, HexText, PadWords, read_file};
 use uz_hex::Image;
 use uz_pads::Pad;
 use uz_schedule::Cert;
@@ -50,13 +50,9 @@ fn check_and_reset(
             }
         }
         Err(pair) => {
-            let line = refused(alloc, &pair.cert, pair.why);
-            drop(pair);
+            let ending = refusal(alloc, pair);
             drop(pads);
-            Ok(Start::Refused(Ending {
-                status: Status::Refused,
-                line: line?,
-            }))
+            Ok(Start::Refused(ending?))
         }
     }
 }

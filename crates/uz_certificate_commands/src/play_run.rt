@@ -25,6 +25,19 @@ use uz_player::{Captured, capture};
 use uz_schedule::Cert;
 use uz_shelf::{Shelf, Sink, WriteError};
 
+/// A run of a certified program.
+#[derive(Clone, Copy)]
+pub struct CertifiedRun<'a> {
+    /// The file of its image.
+    pub hex: &'a str,
+    /// The file of its certificate.
+    pub cert: &'a str,
+    /// The file of its pads.
+    pub pads: &'a str,
+    /// How many clocks it takes, unless it stops before.
+    pub clocks: Clocks,
+}
+
 /// Prints the lines of a run whose records are written.
 fn end_play<K: Sink>(alloc: Global, out: &mut K, captured: Captured) -> Status
     ensures comes { (frames : List ℕ) (edges : List Edge) (old new : Option FileMap)
@@ -71,31 +84,32 @@ fn play_on<H: Shelf, K: Sink>(
 /// `play HEX CERT PADS CLOCKS FRAMES`.
 pub fn run_play<H: Shelf, K: Sink>(
     alloc: Global,
-    hex: &str,
-    cert: &str,
-    pads: &str,
-    clocks: Clocks,
+    run: &CertifiedRun<'_>,
     frames: &str,
     shelf: &mut H,
     out: &mut K,
 ) -> Status
     ensures outcome { MayCome (PlayAnswers (H.files shelf.old)
-        (Rose (H.load_faults shelf.old) (H.load_faults shelf.new)) hex.now cert.now pads.now clocks.count
+        (Rose (H.load_faults shelf.old) (H.load_faults shelf.new)) run.now.hex.now run.now.cert.now run.now.pads.now run.now.clocks.count
         frames.now)
-        (PlayParts (H.files shelf.old) hex.now cert.now pads.now clocks.count frames.now)
+        (PlayParts (H.files shelf.old) run.now.hex.now run.now.cert.now run.now.pads.now run.now.clocks.count frames.now)
         (Rose (H.write_faults shelf.old) (H.write_faults shelf.new) ⊎ Rose (K.faults out.old) (K.faults out.new))
         result (outside (H.files shelf.old) (K.text out.old)) (outside (H.files shelf.new) (K.text out.new)) }
-    ensures played { result ≡ Status.Done → FilesPlayed (H.files shelf.old) hex.now cert.now pads.now clocks.count }
-    ensures halted { result ≡ Status.Stopped → FilesHalted (H.files shelf.old) hex.now cert.now pads.now clocks.count }
+    ensures played { result ≡ Status.Done
+        → FilesPlayed (H.files shelf.old) run.now.hex.now run.now.cert.now run.now.pads.now run.now.clocks.count }
+    ensures halted { result ≡ Status.Stopped
+        → FilesHalted (H.files shelf.old) run.now.hex.now run.now.cert.now run.now.pads.now run.now.clocks.count }
     ensures faults { K.faults out.old ≤ K.faults out.new }
 {
     played_runs_keep();
-    let start = match start_play(alloc, shelf, hex, cert, pads) {
+    let start = match start_play(alloc, shelf, run.hex, run.cert, run.pads) {
         Ok(start) => start,
         Err(failure) => return give_up(alloc, out, &failure),
     };
     match start {
-        Start::Ready { console, cert } => play_on(alloc, console, cert, clocks, frames, shelf, out),
+        Start::Ready { console, cert } => play_on(
+            alloc, console, cert, run.clocks, frames, shelf, out,
+        ),
         Start::Refused(ending) => end_with(alloc, out, &ending),
     }
 }

@@ -37,7 +37,7 @@ fn push_slacks(text: &mut Vec<u8>, slacks: &[Slack]) -> Result<(), AllocError>
 }
 
 /// The report of an accepted pair: a line for each rest, and one for the frame.
-pub(crate) fn report(alloc: Global, pair: &Accepted) -> Result<Vec<u8>, AllocError>
+pub(crate) fn report_text(alloc: Global, pair: &Accepted) -> Result<Vec<u8>, AllocError>
     ensures text { IfOk result (λ text. text.items ≡ report_text pair.now.cert) }
     ensures worth { IfOk result (λ _. MainsTimeTells pair.now.image pair.now.cert) }
 {

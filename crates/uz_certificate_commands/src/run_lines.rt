@@ -27,7 +27,7 @@ fn push_edge_counts(text: &mut Vec<u8>, counts: Counts) -> Result<(), AllocError
 }
 
 /// The first state that meets the entry condition: its clock and line.
-fn entered(alloc: Global, clock: u64, line: u16) -> Result<Vec<u8>, AllocError>
+fn entered_line(alloc: Global, clock: u64, line: u16) -> Result<Vec<u8>, AllocError>
     ensures { IfOk result (λ text. text.items ≡ entered_line clock line) }
 {
     let mut text = Vec::new(alloc);
@@ -38,12 +38,12 @@ fn entered(alloc: Global, clock: u64, line: u16) -> Result<Vec<u8>, AllocError>
 }
 
 /// The lines of a run that is over.
-fn over(alloc: Global, counts: Counts) -> Result<Vec<u8>, AllocError>
+fn over_text(alloc: Global, counts: Counts) -> Result<Vec<u8>, AllocError>
     ensures { IfOk result (λ text. text.items ≡ over_text counts.entered counts) }
 {
     match counts.entered {
         Some((clock, line)) => {
-            let mut text = entered(alloc, clock, line)?;
+            let mut text = entered_line(alloc, clock, line)?;
             push_counts(&mut text, counts)?;
             Ok(text)
         }
@@ -77,7 +77,7 @@ pub fn ending_of(alloc: Global, captured: Captured) -> Result<Ending, AllocError
         }),
         RunEnd::Over => Ok(Ending {
             status: over_status_of(captured.counts),
-            line: over(alloc, captured.counts)?,
+            line: over_text(alloc, captured.counts)?,
         }),
     }
 }

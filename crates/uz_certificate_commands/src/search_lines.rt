@@ -44,7 +44,7 @@ fn last_clock(trail: &[Instance]) -> u16
 }
 
 /// The line of a trail whose last instance can't be certified.
-fn stuck(alloc: Global, trail: &[Instance], why: Fail) -> Result<Vec<u8>, AllocError>
+fn stuck_line(alloc: Global, trail: &[Instance], why: Fail) -> Result<Vec<u8>, AllocError>
     ensures { IfOk result (λ line. line.items ≡ stuck_line trail.now why) }
 {
     let mut line = Vec::new(alloc);
@@ -61,7 +61,7 @@ fn stuck(alloc: Global, trail: &[Instance], why: Fail) -> Result<Vec<u8>, AllocE
 }
 
 /// The line of two trails that differ.
-fn split(alloc: Global, first: &[Instance], second: &[Instance]) -> Result<Vec<u8>, AllocError>
+fn split_line(alloc: Global, first: &[Instance], second: &[Instance]) -> Result<Vec<u8>, AllocError>
     ensures { IfOk result (λ line. line.items ≡ split_line first.now second.now) }
 {
     let mut line = Vec::new(alloc);
@@ -77,12 +77,12 @@ fn split(alloc: Global, first: &[Instance], second: &[Instance]) -> Result<Vec<u
 }
 
 /// The line that says why no certificate is found.
-pub fn not_found(alloc: Global, why: &NotFound) -> Result<Vec<u8>, AllocError>
+pub fn not_found_line(alloc: Global, why: &NotFound) -> Result<Vec<u8>, AllocError>
     ensures { IfOk result (λ line. line.items ≡ not_found_line why.now) }
 {
     match why {
-        NotFound::Stuck { trail, why } => stuck(alloc, trail.as_slice(), *why),
-        NotFound::Split { first, second } => split(alloc, first.as_slice(), second.as_slice()),
+        NotFound::Stuck { trail, why } => stuck_line(alloc, trail.as_slice(), *why),
+        NotFound::Split { first, second } => split_line(alloc, first.as_slice(), second.as_slice()),
         NotFound::Full { instances } => {
             number_line(alloc, b"refused full ", instances.len() as u64)
         }

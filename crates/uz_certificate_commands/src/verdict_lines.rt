@@ -31,7 +31,7 @@ pub fn reason_name(why: Fail) -> &'static [u8]
 }
 
 /// The line of an accepted pair.
-pub fn accepted(alloc: Global, cert: &Cert) -> Result<Vec<u8>, AllocError>
+pub fn accepted_line(alloc: Global, cert: &Cert) -> Result<Vec<u8>, AllocError>
     requires { ScheduleFits cert.now.schedule }
     ensures { IfOk result (λ line. line.items ≡ accepted_line cert.now) }
 {
@@ -78,7 +78,7 @@ fn refused_point(
 }
 
 /// The line of a pair that is refused, with the first failing item.
-pub fn refused(alloc: Global, cert: &Cert, why: RefusedWhy) -> Result<Vec<u8>, AllocError>
+pub fn refused_line(alloc: Global, cert: &Cert, why: RefusedWhy) -> Result<Vec<u8>, AllocError>
     ensures { IfOk result (λ line. line.items ≡ refused_line cert.now why) }
 {
     let mut text = Vec::new(alloc);

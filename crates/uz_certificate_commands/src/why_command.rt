@@ -14,8 +14,8 @@ ghost use Rattle.uz_certificate_commands.specs.WhyCommand.{HintsLead, IsHintPart
 
 use crate::hint_lines::hint_text;
 use crate::hinted::{Hinted, read_hinted};
-use crate::search_lines::not_found;
-use crate::verdict_lines::accepted;
+use crate::search_lines::not_found_line;
+use crate::verdict_lines::accepted_line;
 use avr_asm::{SourceMap, source_map};
 use std::alloc::{AllocError, Global};
 use uz_check::soundness;
@@ -26,7 +26,7 @@ use uz_schedule::Response;
 use uz_shelf::{Shelf, Sink};
 
 /// What is told of the hint of an index at which hints are refused. The flat lines of the hints are handed in.
-fn told_hint(
+fn broken_rule_text(
     alloc: Global,
     read: &Hinted,
     irq: Response,
@@ -57,7 +57,7 @@ fn hint_part(
     ensures { IfOk result (λ text. IsHintPart read.now.image irq (hints_seen read.now.hints) why.now text.items) }
 {
     match why {
-        NotFound::Hint { index } => told_hint(alloc, read, irq, lines, *index),
+        NotFound::Hint { index } => broken_rule_text(alloc, read, irq, lines, *index),
         _ => Ok(Vec::new(alloc)),
     }
 }
@@ -91,7 +91,7 @@ fn refusal_text(
     let map = source_map(alloc, read.hints.source.flat.text.as_slice())?;
     let way = way_to(alloc, read, &map, why)?;
     let hint = hint_part(alloc, read, irq, map.hint_lines.as_slice(), why)?;
-    let mut text = not_found(alloc, why)?;
+    let mut text = not_found_line(alloc, why)?;
     text.extend_from_slice(way.as_slice())?;
     text.extend_from_slice(hint.as_slice())?;
     Ok(text)
@@ -106,7 +106,7 @@ fn search(alloc: Global, read: &Hinted, irq: Response) -> Result<Ending, Failure
 {
     match find(alloc, &read.image, read.hints.built.hints.as_slice(), irq) {
         Ok(cert) => {
-            let line = accepted(alloc, &cert);
+            let line = accepted_line(alloc, &cert);
             drop(cert);
             Ok(Ending {
                 status: Status::Done,
@@ -126,7 +126,7 @@ fn search(alloc: Global, read: &Hinted, irq: Response) -> Result<Ending, Failure
 }
 
 /// Reads both files in their order, searches for a certificate, and says what is printed.
-fn searched<H: Shelf>(
+fn prepare<H: Shelf>(
     alloc: Global,
     shelf: &mut H,
     hex: &str,
@@ -165,6 +165,6 @@ pub fn run_why<H: Shelf, K: Sink>(
     ensures files { H.files shelf.new ≡ H.files shelf.old }
     ensures faults { K.faults out.old ≤ K.faults out.new }
 {
-    let searched = searched(alloc, shelf, hex, hints, irq);
-    finish(alloc, out, searched)
+    let ending = prepare(alloc, shelf, hex, hints, irq);
+    finish(alloc, out, ending)
 }

@@ -15,7 +15,7 @@ use uz_hex::{Image, write_hex};
 use uz_shelf::{Shelf, Sink};
 
 /// The line of an assembled image.
-pub(crate) fn assembled(alloc: Global, image: &Image) -> Result<Vec<u8>, AllocError>
+pub(crate) fn assembled_line(alloc: Global, image: &Image) -> Result<Vec<u8>, AllocError>
     ensures { IfOk result (λ line. line.items ≡ assembled_line image.now) }
 {
     number_line(alloc, b"assembled bytes ", u64::from(image.count()))
@@ -32,7 +32,7 @@ fn prepare<H: Shelf>(alloc: Global, shelf: &mut H, source: &str) -> Result<Work,
 {
     let built = read_file::<Source, H>(alloc, shelf, source)?;
     let text = write_hex(alloc, &built.image)?;
-    let line = assembled(alloc, &built.image)?;
+    let line = assembled_line(alloc, &built.image)?;
     Ok(Work { text, line })
 }
 

@@ -10,11 +10,11 @@ ghost use Rattle.uz_program_commands.specs.HintsCommand.{FilesHinted, HintsAnswe
 ghost use Rattle.uz_program_commands.specs.HintsValues.{IsTold, IsToldOf};
 
 use crate::hints_lines::{hints_line, no_hints, why_none};
+use crate::run_input::RunInput;
 use std::alloc::{AllocError, Global};
 use uz_console::Console;
 use uz_files::{Ending, Failure, Status, Work, end_with, finish_work, give_up, reset_console};
 use uz_proposal::{NoHints, Remarked, checked_source, propose};
-use uz_schedule::Response;
 use uz_shelf::{Shelf, Sink};
 
 /// What a run gives.
@@ -69,20 +69,17 @@ fn hints_of(alloc: Global, console: &mut Console, clocks: u32) -> Result<Propose
 fn prepare<H: Shelf>(
     alloc: Global,
     shelf: &mut H,
-    hex: &str,
-    pads: &str,
-    irq: Response,
-    clocks: u32,
+    input: &RunInput<'_>,
 ) -> Result<Proposed, Failure>
-    ensures told { IfOk result (IsToldOf (H.files shelf.old) hex.now pads.now) }
+    ensures told { IfOk result (IsToldOf (H.files shelf.old) input.now.hex.now input.now.pads.now) }
     ensures fails { IfErr result (EndsBy (RunPreface (H.files shelf.old)
-        (Rose (H.load_faults shelf.old) (H.load_faults shelf.new)) hex.now pads.now)) }
+        (Rose (H.load_faults shelf.old) (H.load_faults shelf.new)) input.now.hex.now input.now.pads.now)) }
     ensures files { H.files shelf.new ≡ H.files shelf.old }
     ensures load_faults { H.load_faults shelf.old ≤ H.load_faults shelf.new }
     ensures write_faults { H.write_faults shelf.new ≡ H.write_faults shelf.old }
 {
-    match reset_console(alloc, shelf, hex, pads, irq) {
-        Ok(mut console) => hints_of(alloc, &mut console, clocks),
+    match reset_console(alloc, shelf, input.hex, input.pads, input.irq) {
+        Ok(mut console) => hints_of(alloc, &mut console, input.clocks),
         Err(failure) => Err(failure),
     }
 }
@@ -90,23 +87,20 @@ fn prepare<H: Shelf>(
 /// `hints HEX PADS IRQ CLOCKS HINTS`: HINTS is created once the run is over and hints are proposed.
 pub fn run_hints<H: Shelf, K: Sink>(
     alloc: Global,
-    hex: &str,
-    pads: &str,
-    irq: Response,
-    clocks: u32,
+    input: &RunInput<'_>,
     hints: &str,
     shelf: &mut H,
     out: &mut K,
 ) -> Status
     ensures outcome { MayCome (HintsAnswers (H.files shelf.old)
-        (Rose (H.load_faults shelf.old) (H.load_faults shelf.new)) hex.now pads.now irq hints.now) NoPart
+        (Rose (H.load_faults shelf.old) (H.load_faults shelf.new)) input.now.hex.now input.now.pads.now input.now.irq hints.now) NoPart
         (Rose (H.write_faults shelf.old) (H.write_faults shelf.new) ⊎ Rose (K.faults out.old) (K.faults out.new))
         result (outside (H.files shelf.old) (K.text out.old)) (outside (H.files shelf.new) (K.text out.new)) }
-    ensures hinted { result ≡ Status.Done → FilesHinted (H.files shelf.old) (H.files shelf.new) hex.now pads.now hints.now }
+    ensures hinted { result ≡ Status.Done → FilesHinted (H.files shelf.old) (H.files shelf.new) input.now.hex.now input.now.pads.now hints.now }
     ensures refused { result ≡ Status.Refused → H.files shelf.new ≡ H.files shelf.old }
     ensures faults { K.faults out.old ≤ K.faults out.new }
 {
-    let proposed = match prepare(alloc, shelf, hex, pads, irq, clocks) {
+    let proposed = match prepare(alloc, shelf, input) {
         Ok(proposed) => proposed,
         Err(failure) => return give_up(alloc, out, &failure),
     };

@@ -15,7 +15,7 @@ ghost use Rattle.uz_program_commands.specs.MacroCommands.{IsUnbuilt, expanded_li
 ghost use Rattle.uz_program_commands.specs.MacroSource.{ReadsFlat, bad_line_of};
 ghost use Rattle.uz_program_commands.specs.MacroValues.{IsImageWork, IsMacroWork, TellsAt};
 
-use crate::asm_command::assembled;
+use crate::asm_command::assembled_line;
 use crate::macro_source::{Expanded, bad_line_at, expand_file};
 use avr_asm::{AsmError, AsmWhy, Built, assemble};
 use avr_macro::Origin;
@@ -25,7 +25,7 @@ use uz_hex::{Image, write_hex};
 use uz_shelf::{Shelf, Sink};
 
 /// The line of an expanded source.
-fn expanded(alloc: Global, origins: &[Origin]) -> Result<Vec<u8>, AllocError>
+fn expanded_line(alloc: Global, origins: &[Origin]) -> Result<Vec<u8>, AllocError>
     ensures { IfOk result (λ line. line.items ≡ expanded_line origins.now) }
 {
     number_line(alloc, b"expanded lines ", origins.len() as u64)
@@ -38,7 +38,7 @@ fn image_work(alloc: Global, image: &Image) -> Result<Work, AllocError>
     ensures line { IfOk result (λ work. work.line.items ≡ assembled_line image.now) }
 {
     let text = write_hex(alloc, image)?;
-    let line = assembled(alloc, image)?;
+    let line = assembled_line(alloc, image)?;
     Ok(Work { text, line })
 }
 
@@ -60,7 +60,7 @@ fn prepare_expansion<H: Shelf>(
         Ok(source) => source,
         Err(failure) => return Err(failure),
     };
-    let line = expanded(alloc, source.flat.origins.as_slice())?;
+    let line = expanded_line(alloc, source.flat.origins.as_slice())?;
     Ok(Work {
         text: source.flat.text,
         line,

@@ -10,9 +10,9 @@ ghost use Rattle.uz_program_commands.specs.TraceValues.{end_status, last_line};
 ghost use Rattle.uz_files.specs.RunFiles.{StartsRun};
 ghost use Rattle.uz_schedule.specs.declared.kinds.Response.{Response};
 
+use crate::run_input::RunInput;
 use crate::trace_command::{RunEnd, ending_of, print_run};
 use std::alloc::{AllocError, Global};
-use uz_cert::Response;
 use uz_console::Console;
 use uz_files::{Status, end_with, give_up, reset_console};
 use uz_shelf::{Shelf, Sink, WriteError};
@@ -50,23 +50,20 @@ fn trace_on<K: Sink>(alloc: Global, console: &mut Console, clocks: u32, out: &mu
 /// `trace HEX PADS IRQ CLOCKS`.
 pub fn run_trace<H: Shelf, K: Sink>(
     alloc: Global,
-    hex: &str,
-    pads: &str,
-    irq: Response,
-    clocks: u32,
+    input: &RunInput<'_>,
     shelf: &mut H,
     out: &mut K,
 ) -> Status
     ensures outcome { MayCome (TraceAnswers (H.files shelf.old)
-        (Rose (H.load_faults shelf.old) (H.load_faults shelf.new)) hex.now pads.now irq clocks)
-        (TraceParts (H.files shelf.old) hex.now pads.now irq clocks)
+        (Rose (H.load_faults shelf.old) (H.load_faults shelf.new)) input.now.hex.now input.now.pads.now input.now.irq input.now.clocks)
+        (TraceParts (H.files shelf.old) input.now.hex.now input.now.pads.now input.now.irq input.now.clocks)
         (Rose (H.write_faults shelf.old) (H.write_faults shelf.new) ⊎ Rose (K.faults out.old) (K.faults out.new))
         result (outside (H.files shelf.old) (K.text out.old)) (outside (H.files shelf.new) (K.text out.new)) }
     ensures files { H.files shelf.new ≡ H.files shelf.old }
     ensures faults { K.faults out.old ≤ K.faults out.new }
 {
-    match reset_console(alloc, shelf, hex, pads, irq) {
-        Ok(mut console) => trace_on(alloc, &mut console, clocks, out),
+    match reset_console(alloc, shelf, input.hex, input.pads, input.irq) {
+        Ok(mut console) => trace_on(alloc, &mut console, input.clocks, out),
         Err(failure) => give_up(alloc, out, &failure),
     }
 }

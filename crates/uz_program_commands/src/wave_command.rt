@@ -17,12 +17,12 @@ ghost use Rattle.uz_program_commands.specs.WaveCommand.{FilesHeard, WaveAnswers,
 ghost use Rattle.uz_program_commands.specs.WaveValues.{IsHeard, IsTask, IsTaskOf};
 
 use crate::listening::{Heard, listen};
+use crate::run_input::RunInput;
 use crate::wave_file::{samples, write_wave};
 use std::alloc::{AllocError, Global};
 use uz_console::Console;
 use uz_files::{Ending, Failure, Status, end_with, give_up, reset_console, stopped};
 use uz_report::Wave;
-use uz_schedule::Response;
 use uz_shelf::{Shelf, Sink, WriteError};
 
 /// What a run leaves to do.
@@ -64,23 +64,16 @@ fn hear_task(alloc: Global, console: &mut Console, clocks: u32) -> Result<Task, 
 }
 
 /// Reads both files in their order, and listens to the run from reset.
-fn prepare<H: Shelf>(
-    alloc: Global,
-    shelf: &mut H,
-    hex: &str,
-    pads: &str,
-    irq: Response,
-    clocks: u32,
-) -> Result<Task, Failure>
-    ensures task { IfOk result (IsTask (H.files shelf.old) hex.now pads.now irq clocks) }
+fn prepare<H: Shelf>(alloc: Global, shelf: &mut H, input: &RunInput<'_>) -> Result<Task, Failure>
+    ensures task { IfOk result (IsTask (H.files shelf.old) input.now.hex.now input.now.pads.now input.now.irq input.now.clocks) }
     ensures fails { IfErr result (EndsBy (RunPreface (H.files shelf.old)
-        (Rose (H.load_faults shelf.old) (H.load_faults shelf.new)) hex.now pads.now)) }
+        (Rose (H.load_faults shelf.old) (H.load_faults shelf.new)) input.now.hex.now input.now.pads.now)) }
     ensures files { H.files shelf.new ≡ H.files shelf.old }
     ensures load_faults { H.load_faults shelf.old ≤ H.load_faults shelf.new }
     ensures write_faults { H.write_faults shelf.new ≡ H.write_faults shelf.old }
 {
-    match reset_console(alloc, shelf, hex, pads, irq) {
-        Ok(mut console) => hear_task(alloc, &mut console, clocks),
+    match reset_console(alloc, shelf, input.hex, input.pads, input.irq) {
+        Ok(mut console) => hear_task(alloc, &mut console, input.clocks),
         Err(failure) => Err(failure),
     }
 }
@@ -118,24 +111,22 @@ fn write_and_tell<H: Shelf, K: Sink>(
 /// `wave HEX PADS IRQ CLOCKS WAV`: WAV is created once the run is over.
 pub fn run_wave<H: Shelf, K: Sink>(
     alloc: Global,
-    hex: &str,
-    pads: &str,
-    irq: Response,
-    clocks: u32,
+    input: &RunInput<'_>,
     wav: &str,
     shelf: &mut H,
     out: &mut K,
 ) -> Status
     ensures outcome { MayCome (WaveAnswers (H.files shelf.old)
-        (Rose (H.load_faults shelf.old) (H.load_faults shelf.new)) hex.now pads.now irq clocks wav.now)
+        (Rose (H.load_faults shelf.old) (H.load_faults shelf.new)) input.now.hex.now input.now.pads.now input.now.irq input.now.clocks wav.now)
         NoPart
         (Rose (H.write_faults shelf.old) (H.write_faults shelf.new) ⊎ Rose (K.faults out.old) (K.faults out.new))
         result (outside (H.files shelf.old) (K.text out.old)) (outside (H.files shelf.new) (K.text out.new)) }
-    ensures heard { result ≡ Status.Done → FilesHeard (H.files shelf.old) (H.files shelf.new) hex.now pads.now irq clocks wav.now }
+    ensures heard { result ≡ Status.Done
+        → FilesHeard (H.files shelf.old) (H.files shelf.new) input.now.hex.now input.now.pads.now input.now.irq input.now.clocks wav.now }
     ensures stopped { result ≡ Status.Stopped → H.files shelf.new ≡ H.files shelf.old }
     ensures faults { K.faults out.old ≤ K.faults out.new }
 {
-    let task = match prepare(alloc, shelf, hex, pads, irq, clocks) {
+    let task = match prepare(alloc, shelf, input) {
         Ok(task) => task,
         Err(failure) => return give_up(alloc, out, &failure),
     };

@@ -14,12 +14,12 @@ use crate::usage_line;
 use avr_macro::expansion_is_unique;
 use std::alloc::Global;
 use uz_certificate_commands::{
-    reading_is_unique, run_certify, run_check, run_demo, run_find, run_migrate, run_play,
-    run_report, run_timing, run_why,
+    CertifiedRun, Check, Report, Timing, reading_is_unique, run_certify, run_demo, run_find,
+    run_migrate, run_on_pair, run_play, run_why,
 };
 use uz_files::{Status, end_done, end_fault, put_no_memory, readings_are_unique};
 use uz_program_commands::{
-    run_asm, run_build, run_debug, run_dis, run_expand, run_hints, run_trace, run_wave,
+    RunInput, run_asm, run_build, run_debug, run_dis, run_expand, run_hints, run_trace, run_wave,
 };
 use uz_shelf::{Shelf, Sink};
 
@@ -51,7 +51,7 @@ fn run<H: Shelf, K: Sink>(
     ensures faults { K.faults out.old ≤ K.faults out.new }
 {
     match *command {
-        Command::Check { hex, cert } => run_check(alloc, hex, cert, shelf, out),
+        Command::Check { hex, cert } => run_on_pair::<Check, H, K>(alloc, hex, cert, shelf, out),
         Command::Dis { hex } => run_dis(alloc, hex, shelf, out),
         Command::Asm { source, hex } => run_asm(alloc, source, hex, shelf, out),
         Command::Trace {
@@ -59,7 +59,15 @@ fn run<H: Shelf, K: Sink>(
             pads,
             irq,
             clocks,
-        } => run_trace(alloc, hex, pads, irq, clocks, shelf, out),
+        } => {
+            let input = RunInput {
+                hex,
+                pads,
+                irq,
+                clocks,
+            };
+            run_trace(alloc, &input, shelf, out)
+        }
         Command::Expand { source, flat } => run_expand(alloc, source, flat, shelf, out),
         Command::Build { source, hex } => run_build(alloc, source, hex, shelf, out),
         Command::Play {
@@ -68,7 +76,15 @@ fn run<H: Shelf, K: Sink>(
             pads,
             clocks,
             frames,
-        } => run_play(alloc, hex, cert, pads, clocks, frames, shelf, out),
+        } => {
+            let run = CertifiedRun {
+                hex,
+                cert,
+                pads,
+                clocks,
+            };
+            run_play(alloc, &run, frames, shelf, out)
+        }
         Command::Debug {
             hex,
             pads,
@@ -83,15 +99,23 @@ fn run<H: Shelf, K: Sink>(
         } => run_certify(alloc, source, irq, hex, cert, shelf, out),
         Command::Demo { number } => run_demo(alloc, number, out),
         Command::Migrate { older, newer } => run_migrate(alloc, older, newer, shelf, out),
-        Command::Report { hex, cert } => run_report(alloc, hex, cert, shelf, out),
-        Command::Timing { hex, cert } => run_timing(alloc, hex, cert, shelf, out),
+        Command::Report { hex, cert } => run_on_pair::<Report, H, K>(alloc, hex, cert, shelf, out),
+        Command::Timing { hex, cert } => run_on_pair::<Timing, H, K>(alloc, hex, cert, shelf, out),
         Command::Wave {
             hex,
             pads,
             irq,
             clocks,
             wav,
-        } => run_wave(alloc, hex, pads, irq, clocks, wav, shelf, out),
+        } => {
+            let input = RunInput {
+                hex,
+                pads,
+                irq,
+                clocks,
+            };
+            run_wave(alloc, &input, wav, shelf, out)
+        }
         Command::Prints { text } => end_done(alloc, out, text.as_bytes()),
         Command::Find {
             hex,
@@ -105,7 +129,15 @@ fn run<H: Shelf, K: Sink>(
             irq,
             clocks,
             hints,
-        } => run_hints(alloc, hex, pads, irq, clocks, hints, shelf, out),
+        } => {
+            let input = RunInput {
+                hex,
+                pads,
+                irq,
+                clocks,
+            };
+            run_hints(alloc, &input, hints, shelf, out)
+        }
         Command::Why { hex, hints, irq } => run_why(alloc, hex, hints, irq, shelf, out),
     }
 }

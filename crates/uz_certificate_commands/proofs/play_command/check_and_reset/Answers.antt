@@ -25,7 +25,8 @@ returns-in-Ok-reset c =
           c.in-Ok-reset.ensures.stands);
     }
 
-pub returns-in_ok-line-in-Err : goal.returns-in_ok-line-in-Err
-returns-in_ok-line-in-Err c =
-    let line = c.in_ok-line-in-Err.ensures ∙ ap (λ cert. refused_line cert c.in-Err.pair.why) c.in-Err.ensures.refused.2 in
-    record { answers = λ clocks frames. inl (c.in-Err.pair.why, c.in-Err.ensures.refused.0, ap (one_line Refused) line); status = refl }
+pub returns-in_ok-ending-in-Err : goal.returns-in_ok-ending-in-Err
+returns-in_ok-ending-in-Err c =
+    let answer = c.in_ok-ending-in-Err.ensures
+    ∙ ap (λ cert. one_line Refused (refused_line cert c.in-Err.pair.why)) c.in-Err.ensures.refused.2 in
+    record { answers = λ clocks frames. inl (c.in-Err.pair.why, c.in-Err.ensures.refused.0, answer); status = ap (λ a. a.status) answer }

@@ -5,11 +5,11 @@ use Rattle.uz_certificate_commands.proofs.why_command.run_why.Goals as goal
 
 pub returns-clause-outcome : goal.returns-clause-outcome
 returns-clause-outcome g c =
-    run_outcome _ _ c.searched-searched.result c.finish.result _ _ _ _ _ _ inr c.searched-searched.ensures.files
-    c.searched-searched.ensures.gives c.finish.ensures.comes
+    run_outcome _ _ c.prepare-ending.result c.finish.result _ _ _ _ _ _ inr c.prepare-ending.ensures.files
+    c.prepare-ending.ensures.gives c.finish.ensures.comes
 
 pub returns-clause-certified : goal.returns-clause-certified
 returns-clause-certified g c =
-    holds_if_done (HintsLead (g.H.Shelf.files c.args.shelf.now) c.args.hex.now c.args.hints.now c.args.irq) c.searched-searched.result
+    holds_if_done (HintsLead (g.H.Shelf.files c.args.shelf.now) c.args.hex.now c.args.hints.now c.args.irq) c.prepare-ending.result
     c.finish.result _ _ _
-    c.searched-searched.ensures.certified (c.finish.ensures.comes (g.H.Shelf.files c.args.shelf.now))
+    c.prepare-ending.ensures.certified (c.finish.ensures.comes (g.H.Shelf.files c.args.shelf.now))

@@ -7,7 +7,7 @@ use Rattle.uz_top.proofs.top.run.Goals as goal
 
 pub returns-in-Check-clause-outcome : goal.returns-in-Check-clause-outcome
 returns-in-Check-clause-outcome g c = outcome_at (value_of c.args.command.now) _ _ _ _ _ _ _ (ap value_of c.in-Check.is)
-    c.run_check.ensures.outcome
+    c.run_on_pair.ensures.outcome
 
 pub returns-in-Dis-clause-outcome : goal.returns-in-Dis-clause-outcome
 returns-in-Dis-clause-outcome g c = outcome_at (value_of c.args.command.now) _ _ _ _ _ _ _ (ap value_of c.in-Dis.is)
@@ -91,11 +91,11 @@ returns-in-Migrate-clause-certified g c = λ done apart.
 
 pub returns-in-Report-clause-outcome : goal.returns-in-Report-clause-outcome
 returns-in-Report-clause-outcome g c = outcome_at (value_of c.args.command.now) _ _ _ _ _ _ _ (ap value_of c.in-Report.is)
-    c.run_report.ensures.outcome
+    c.run_on_pair-in-Report.ensures.outcome
 
 pub returns-in-Timing-clause-outcome : goal.returns-in-Timing-clause-outcome
 returns-in-Timing-clause-outcome g c = outcome_at (value_of c.args.command.now) _ _ _ _ _ _ _ (ap value_of c.in-Timing.is)
-    c.run_timing.ensures.outcome
+    c.run_on_pair-in-Timing.ensures.outcome
 
 pub returns-in-Wave-clause-outcome : goal.returns-in-Wave-clause-outcome
 returns-in-Wave-clause-outcome g c = outcome_at (value_of c.args.command.now) _ _ _ _ _ _ _ (ap value_of c.in-Wave.is)

@@ -3,7 +3,7 @@ use Rattle.uz_certificate_commands.specs.HintedValues.{hints_seen}
 use Rattle.uz_certificate_commands.specs.WhyCommand.{WhyTells}
 use Rattle.uz_certificate_commands.proofs.HintedLemmas.{fails_so}
 use Rattle.uz_certificate_commands.proofs.WhyLemmas.{searched_gives, searched_leads}
-use Rattle.uz_certificate_commands.proofs.why_command.searched.Goals as goal
+use Rattle.uz_certificate_commands.proofs.why_command.prepare.Goals as goal
 
 pub returns-in-Err-clause-gives : goal.returns-in-Err-clause-gives
 returns-in-Err-clause-gives g c =

@@ -2,7 +2,7 @@ use Rattle.std.proofs.Common.{subst}
 use Rattle.uz_paths.specs.Rules.{IsRuleAt}
 use Rattle.uz_certificate_commands.specs.HintedValues.{hints_seen}
 use Rattle.uz_certificate_commands.proofs.WhyLemmas.{hint_told}
-use Rattle.uz_certificate_commands.proofs.why_command.told_hint.Goals as goal
+use Rattle.uz_certificate_commands.proofs.why_command.broken_rule_text.Goals as goal
 
 pub returns-in-Some : goal.returns-in-Some
 returns-in-Some c =

@@ -2,7 +2,7 @@ use Rattle.std.proofs.Common.{refl, subst, []}
 use Rattle.uz_console.specs.Consoles.{StandsFor}
 use Rattle.uz_schedule.specs.declared.kinds.Response.TheVariants.{Four}
 use Rattle.uz_files.specs.RunFiles.{start_of}
-use Rattle.uz_certificate_commands.proofs.demo_start.prepared.Goals as goal
+use Rattle.uz_certificate_commands.proofs.demo_start.reset_demo.Goals as goal
 
 pub returns-in-Ok-reset : goal.returns-in-Ok-reset
 returns-in-Ok-reset c = record {

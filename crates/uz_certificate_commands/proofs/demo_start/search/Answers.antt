@@ -6,18 +6,18 @@ use Rattle.uz_paths.specs.Finding.{IsAsked}
 use Rattle.uz_certificate_commands.specs.DemoValues.{IsPrepared, IsSearched}
 use Rattle.uz_certificate_commands.proofs.CertifyLemmas.{allowed_of}
 use Rattle.uz_certificate_commands.proofs.DemoLemmas.{ready_found}
-use Rattle.uz_certificate_commands.proofs.demo_start.searched.Goals as goal
-use Rattle.uz_certificate_commands.proofs.demo_start.searched.Goals.{In_ok-line-in-Err}
+use Rattle.uz_certificate_commands.proofs.demo_start.search.Goals as goal
+use Rattle.uz_certificate_commands.proofs.demo_start.search.Goals.{In_ok-line-in-Err}
 
 pub returns-in-Ok : goal.returns-in-Ok
 returns-in-Ok c =
     let image = c.args.built.image in
     let hints = c.args.built.hints.items in
     let asked = subst (λ h. IsAsked image Four h c.in-Ok.cert) c.as_slice.ensures.value c.in-Ok.ensures.asked in
-    IfOk-weaker c.prepared.result (IsPrepared image c.in-Ok.cert) (IsSearched image hints)
+    IfOk-weaker c.reset_demo.result (IsPrepared image c.in-Ok.cert) (IsSearched image hints)
     (λ start. ready_found image hints c.in-Ok.cert start
     (allowed_of image Four c.as_slice.result.now hints (Ok c.in-Ok.cert) c.find.result c.as_slice.ensures.value c.in-Ok.is
-    (c.in-Ok.ensures.accepted.0, c.in-Ok.ensures.accepted.1, asked) c.find.ensures.hint)) c.prepared.ensures
+    (c.in-Ok.ensures.accepted.0, c.in-Ok.ensures.accepted.1, asked) c.find.ensures.hint)) c.reset_demo.ensures
 
 refusal_worth : (c : In_ok-line-in-Err) → IsWorth c.args.built.image Four c.args.built.hints.items (Err c.in-Err.why)
 refusal_worth c = search rules
