@@ -42,7 +42,7 @@ class Late(Exception):
 class Browser:
     """One page. A call that has no answer in its time is Late; what scripts of the page fail with is in `faults`."""
 
-    def __init__(self, folder, seconds=60):
+    def __init__(self, folder, seconds=180):
         self.seconds, self.number, self.session, self.data, self.faults = seconds, 0, None, b'', []
         command, self.write = os.pipe()
         self.read, answer = os.pipe()
@@ -84,6 +84,14 @@ class Browser:
                 self.faults.append(json.dumps(message['params']['exceptionDetails'])[:400])
             if message.get('id') == self.number:
                 return message.get('result', {})
+
+    def version(self):
+        """Its main version, as a number; 0 where it gives no answer."""
+        try:
+            product = self.send('Browser.getVersion').get('product', '')
+            return int(product.partition('/')[2].partition('.')[0])
+        except (Late, OSError, ValueError):
+            return 0
 
     def open(self, address):
         self.session = None

@@ -79,6 +79,7 @@ export class Desk {
     const status = document.getElementById('status');
     this.out.textContent = '';
     status.textContent = `${name} ..`;
+    status.dataset.done = '';
     for (const step of BUTTONS[name]) {
       const words = this.words(step), start = performance.now();
       const answer = await this.commands.run(words, this.files);
@@ -88,6 +89,7 @@ export class Desk {
       if (answer.status !== 0) break;
     }
     this.look();
+    status.dataset.done = 'yes'; // all steps of the button are over
   }
 
   // The picture of a frame, and the schedule, of the files that are there.
