@@ -255,6 +255,8 @@ def commands(outcomes, path, library):
         for row in COMMANDS:
             words, files = row.split(), contents(folder)
             status, text = run([path, *words], folder)
+            if row == 'version':  # the script ./uzebox adds a line, the sum of its sources
+                text = b''.join(text.splitlines(True)[:2])
             after = contents(folder)
             made = {name: after[name] for name in after if files.get(name) != after[name]}
             if row == 'build tiles.asm tiles-data.asm':  # real files refuse to be written over where they are read; in memory none does
