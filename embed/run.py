@@ -9,7 +9,6 @@ import sys
 
 SHORT = 256  # the answer needs more room
 
-
 class Ran(ctypes.Structure):
     _fields_ = [('status', ctypes.c_uint32), ('unused', ctypes.c_uint32), ('length', ctypes.c_uint64)]
 
