@@ -1,10 +1,11 @@
 -- The instance and the point that say nothing, of which all others are made by what is known.
-use Rattle.std.specs.Prelude.{◌-◌, false, [], pos, replicate}
+use Rattle.std.specs.Prelude.{◌-◌, false, [], None, pos, replicate}
 use Rattle.uz_schedule.specs.Ends.{whole_byte, whole_pair}
 use Rattle.uz_schedule.specs.declared.facts.Fact.TheVariants.{Any}
 use Rattle.uz_schedule.specs.declared.facts.PairFact.TheVariants.{Any as AnyPair}
 use Rattle.uz_schedule.specs.declared.facts.Val.TheVariants.{Range}
 use Rattle.uz_schedule.specs.declared.facts.Bit.TheVariants.{Free}
+use Rattle.uz_schedule.specs.declared.facts.Compared.TheVariants.{Nothing}
 use Rattle.uz_schedule.specs.declared.kinds.Kind.TheVariants.{Alone}
 use Rattle.uz_schedule.specs.declared.states.Instance.{Instance}
 use Rattle.uz_schedule.specs.declared.states.Point.{Point}
@@ -26,6 +27,7 @@ blank_instance =
       regs = replicate 32 (Range whole_byte);
       pairs = replicate 3 whole_pair;
       flags = replicate 7 Free;
+      compared = Nothing;
       stack = record { items = [] };
       cells = record { items = [] };
     }
@@ -48,7 +50,9 @@ blank_point =
       regs = replicate 32 Any;
       pairs = replicate 3 AnyPair;
       flags = replicate 7 Free;
+      compared = Nothing;
       stack = record { items = [] };
       cells = record { items = [] };
+      split = None;
       next = record { items = [] };
     }

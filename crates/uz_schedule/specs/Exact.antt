@@ -7,6 +7,12 @@ use Rattle.uz_schedule.specs.declared.kinds.Kind.{Kind}
 use Rattle.uz_schedule.specs.declared.facts.Bit.{Bit}
 use Rattle.uz_schedule.specs.declared.facts.Val.{Val}
 use Rattle.uz_schedule.specs.declared.facts.Val.TheVariants.{Range, Old, OldFlags}
+use Rattle.uz_schedule.specs.declared.facts.Against.{Against}
+use Rattle.uz_schedule.specs.declared.facts.Against.TheVariants.{Register, Constant}
+use Rattle.uz_schedule.specs.declared.facts.Compared.{Compared}
+use Rattle.uz_schedule.specs.declared.facts.Compared.TheVariants.{Nothing, Byte, Pair, Result, PairResult, Value}
+use Rattle.uz_schedule.specs.contracts.facts.AgainstPartialEq as operands
+use Rattle.uz_schedule.specs.contracts.facts.ComparedPartialEq as comparisons
 use Rattle.uz_schedule.specs.Ends.{Ends}
 use Rattle.uz_schedule.specs.declared.ranges.Span.{Span}
 use Rattle.uz_schedule.specs.declared.ranges.Wide.{Wide}
@@ -72,6 +78,57 @@ exact_val (Old a) OldFlags h = absurd (true≢false (sym h))
 exact_val OldFlags (Range b) h = absurd (true≢false (sym h))
 exact_val OldFlags (Old b) h = absurd (true≢false (sym h))
 
+pub exact_against : (a b : Against) → (operands.TheImpl.eq-value).it a b ≡ true → a ≡ b
+exact_against (Register a) (Register b) h = ap Register (eqb-true a b h)
+exact_against (Constant a) (Constant b) h = ap Constant (eqb-true a b h)
+exact_against (Register a) (Constant b) h = absurd (true≢false (sym h))
+exact_against (Constant a) (Register b) h = absurd (true≢false (sym h))
+
+pub exact_compared : (a b : Compared) → (comparisons.TheImpl.eq-value).it a b ≡ true → a ≡ b
+exact_compared Nothing Nothing h = refl
+exact_compared (Byte a b) (Byte a' b') h =
+    let d : a ≡ a' = eqb-true a a' (left _ _ h) in let e : b ≡ b' = exact_against b b' (right _ _ h) in λ i. Byte (d i) (e i)
+exact_compared (Pair a b c) (Pair a' b' c') h =
+    let r = right _ _ h in let d : a ≡ a' = eqb-true a a' (left _ _ h) in let e : b ≡ b' = exact_against b b' (left _ _ r) in
+    let f : c ≡ c' = eqb-true c c' (right _ _ r) in λ i. Pair (d i) (e i) (f i)
+exact_compared (Result a b c) (Result a' b' c') h =
+    let r = right _ _ h in let d : a ≡ a' = eqb-true a a' (left _ _ h) in let e : b ≡ b' = eqb-true b b' (left _ _ r) in
+    let f : c ≡ c' = exact_span c c' (right _ _ r) in λ i. Result (d i) (e i) (f i)
+exact_compared (PairResult a b c) (PairResult a' b' c') h =
+    let r = right _ _ h in let d : a ≡ a' = eqb-true a a' (left _ _ h) in let e : b ≡ b' = eqb-true b b' (left _ _ r) in
+    let f : c ≡ c' = exact_wide c c' (right _ _ r) in λ i. PairResult (d i) (e i) (f i)
+exact_compared (Value a) (Value b) h = ap Value (eqb-true a b h)
+exact_compared Nothing (Byte a' b') h = absurd (true≢false (sym h))
+exact_compared Nothing (Pair a' b' c') h = absurd (true≢false (sym h))
+exact_compared Nothing (Result a' b' c') h = absurd (true≢false (sym h))
+exact_compared Nothing (PairResult a' b' c') h = absurd (true≢false (sym h))
+exact_compared Nothing (Value a') h = absurd (true≢false (sym h))
+exact_compared (Byte a b) Nothing h = absurd (true≢false (sym h))
+exact_compared (Byte a b) (Pair a' b' c') h = absurd (true≢false (sym h))
+exact_compared (Byte a b) (Result a' b' c') h = absurd (true≢false (sym h))
+exact_compared (Byte a b) (PairResult a' b' c') h = absurd (true≢false (sym h))
+exact_compared (Byte a b) (Value a') h = absurd (true≢false (sym h))
+exact_compared (Pair a b c) Nothing h = absurd (true≢false (sym h))
+exact_compared (Pair a b c) (Byte a' b') h = absurd (true≢false (sym h))
+exact_compared (Pair a b c) (Result a' b' c') h = absurd (true≢false (sym h))
+exact_compared (Pair a b c) (PairResult a' b' c') h = absurd (true≢false (sym h))
+exact_compared (Pair a b c) (Value a') h = absurd (true≢false (sym h))
+exact_compared (Result a b c) Nothing h = absurd (true≢false (sym h))
+exact_compared (Result a b c) (Byte a' b') h = absurd (true≢false (sym h))
+exact_compared (Result a b c) (Pair a' b' c') h = absurd (true≢false (sym h))
+exact_compared (Result a b c) (PairResult a' b' c') h = absurd (true≢false (sym h))
+exact_compared (Result a b c) (Value a') h = absurd (true≢false (sym h))
+exact_compared (PairResult a b c) Nothing h = absurd (true≢false (sym h))
+exact_compared (PairResult a b c) (Byte a' b') h = absurd (true≢false (sym h))
+exact_compared (PairResult a b c) (Pair a' b' c') h = absurd (true≢false (sym h))
+exact_compared (PairResult a b c) (Result a' b' c') h = absurd (true≢false (sym h))
+exact_compared (PairResult a b c) (Value a') h = absurd (true≢false (sym h))
+exact_compared (Value a) Nothing h = absurd (true≢false (sym h))
+exact_compared (Value a) (Byte a' b') h = absurd (true≢false (sym h))
+exact_compared (Value a) (Pair a' b' c') h = absurd (true≢false (sym h))
+exact_compared (Value a) (Result a' b' c') h = absurd (true≢false (sym h))
+exact_compared (Value a) (PairResult a' b' c') h = absurd (true≢false (sym h))
+
 -- Instances, by where they stand and what is known there
 
 -- they stand at one place
@@ -90,6 +147,7 @@ pub record SameKnown (a b : Instance) : Type 0 where
   pub regs : a.regs ≡ b.regs
   pub pairs : a.pairs ≡ b.pairs
   pub flags : a.flags ≡ b.flags
+  pub compared : a.compared ≡ b.compared
   pub stack : a.stack.items ≡ b.stack.items
   pub cells : a.cells.items ≡ b.cells.items
 
@@ -106,6 +164,7 @@ same_instance a b place known = λ i. record {
   regs = known.regs i;
   pairs = known.pairs i;
   flags = known.flags i;
+  compared = known.compared i;
   stack = record { items = known.stack i };
   cells = record { items = known.cells i };
 }
@@ -124,19 +183,21 @@ exact_instance a b h0 =
     let h10 = right _ _ h9 in
     let h11 = right _ _ h10 in
     let h12 = right _ _ h11 in
+    let h13 = right _ _ h12 in
     same_instance a b (record {
       kind = exact_kind a.kind b.kind (left _ _ h0);
-      pc = eqb-true a.pc b.pc (left _ _ h1);
-      line = eqb-true a.line b.line (left _ _ h2);
-      clock = eqb-true a.clock b.clock (left _ _ h3);
-      level = eqb-true a.level b.level (left _ _ h4);
-      pending = beq_true a.pending b.pending (left _ _ h5);
-      top = eqb-true a.top b.top (left _ _ h6);
-      temp = exact_span a.temp b.temp (left _ _ h7);
+      pc = eqb-true a.pc b.pc (left _ _ h2);
+      line = eqb-true a.line b.line (left _ _ h3);
+      clock = eqb-true a.clock b.clock (left _ _ h4);
+      level = eqb-true a.level b.level (left _ _ h5);
+      pending = beq_true a.pending b.pending (left _ _ h6);
+      top = eqb-true a.top b.top (left _ _ h7);
+      temp = exact_span a.temp b.temp (left _ _ h8);
     }) (record {
-      regs = exact_list _ exact_val a.regs b.regs (left _ _ h8);
-      pairs = exact_list _ exact_wide a.pairs b.pairs (left _ _ h9);
-      flags = exact_list _ exact_bit a.flags b.flags (left _ _ h10);
-      stack = exact_list _ exact_val a.stack.items b.stack.items (left _ _ h11);
-      cells = exact_list _ exact_span a.cells.items b.cells.items h12;
+      regs = exact_list _ exact_val a.regs b.regs (left _ _ h9);
+      pairs = exact_list _ exact_wide a.pairs b.pairs (left _ _ h10);
+      flags = exact_list _ exact_bit a.flags b.flags (left _ _ h1);
+      compared = exact_compared a.compared b.compared (left _ _ h11);
+      stack = exact_list _ exact_val a.stack.items b.stack.items (left _ _ h12);
+      cells = exact_list _ exact_span a.cells.items b.cells.items h13;
     })

@@ -92,6 +92,7 @@ instance_of p l c clock level =
       regs = map (val_of l c) p.regs;
       pairs = pairs_of l c (map (val_of l c) p.regs) p.pairs;
       flags = p.flags;
+      compared = p.compared;
       stack = record { items = map (val_of l c) p.stack.items };
       cells = record { items = map (cell_span l c) p.cells.items };
     }

@@ -22,8 +22,10 @@ point_told base p = record base {
   regs = p.regs;
   pairs = p.pairs;
   flags = p.flags;
+  compared = p.compared;
   stack = p.stack;
   cells = p.cells;
+  split = p.split;
   next = p.next;
 }
 
@@ -40,6 +42,7 @@ instance_told base x = record base {
   regs = x.regs;
   pairs = x.pairs;
   flags = x.flags;
+  compared = x.compared;
   stack = x.stack;
   cells = x.cells;
 }

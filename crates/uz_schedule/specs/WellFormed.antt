@@ -1,13 +1,18 @@
 -- Well formed certificates: within the limits and orders of their text. The numbers are this project's profile.
 use Rattle.std.specs.Prelude.{◌≡◌, ◌⊎◌, ℕ, suc, ◌+◌, ◌-◌, ◌*◌, ◌<◌, ◌≤◌, ◌==◌, ◌&&◌, nat_lt, ℤ, pos, negsuc, ⊤, Bool, true, false, IsTrue}
-use Rattle.std.specs.Prelude.{List, [], ◌∷◌, All, length, map, sum_by, slice_index_or}
+use Rattle.std.specs.Prelude.{List, [], ◌∷◌, All, length, map, sum_by, slice_index_or, Option, None, Some}
 use Rattle.uz_schedule.specs.Ends.{Ends, is_within, whole_byte}
 use Rattle.uz_schedule.specs.Limits.{clock_limit, is_top, rises, ScheduleFits}
 use Rattle.uz_schedule.specs.Schedule.{scanline}
-use Rattle.uz_schedule.specs.Told.{IsPointTold}
 use Rattle.uz_schedule.specs.Tracked.{tracked, depth_of}
 use Rattle.uz_schedule.specs.declared.kinds.Kind.{Kind}
+use Rattle.uz_schedule.specs.declared.facts.Against.{Against}
+use Rattle.uz_schedule.specs.declared.facts.Against.TheVariants.{Register, Constant}
+use Rattle.uz_schedule.specs.declared.facts.Compared.{Compared}
+use Rattle.uz_schedule.specs.declared.facts.Compared.TheVariants.{Byte, Nothing, Pair, PairResult, Result, Value}
 use Rattle.uz_schedule.specs.declared.kinds.Kind.TheVariants.{Main, Handler, Alone}
+use Rattle.uz_schedule.specs.declared.kinds.RuleVersion.{RuleVersion}
+use Rattle.uz_schedule.specs.declared.kinds.RuleVersion.TheVariants.{Two, Three}
 use Rattle.uz_schedule.specs.declared.facts.Fact.{Fact}
 use Rattle.uz_schedule.specs.declared.facts.Fact.TheVariants.{Any, Between, Line, Loop, Old, OldFlags}
 use Rattle.uz_schedule.specs.declared.facts.PairFact.{PairFact}
@@ -234,6 +239,35 @@ pub record MemoryFits (h : Head) (p : Point) : Type 0 where
   pub cell_count : length p.cells.items ≡ length (tracked h p.kind)
   pub cells : All CellFactFits p.cells.items
 
+-- Points: what the rules of version 3 add
+
+abbrev pub AgainstFits : Against → Type 0
+AgainstFits (Register r) = r < 32
+AgainstFits (Constant k) = k ≤ 255
+
+-- registers that there are, pairs of two of them, and ranges in order
+abbrev pub ComparedFits : Compared → Type 0
+ComparedFits Nothing = ⊤
+ComparedFits (Byte d source) = (d < 32) × AgainstFits source
+ComparedFits (Pair d low high) = (d < 31) × AgainstFits low × (high < 32)
+ComparedFits (Result d k old) = (d < 32) × (k ≤ 255) × RangeFits 255 old
+ComparedFits (PairResult d k old) = (d < 31) × (k ≤ 65535) × RangeFits 65535 old
+ComparedFits (Value d) = d < 32
+
+abbrev pub SplitFits : Option ℕ → Type 0
+SplitFits None = ⊤
+SplitFits (Some r) = r < 32
+
+-- by the rules of version 2, and outside main, there is none of it
+abbrev pub IsWithoutRules : Point → Type 0
+IsWithoutRules p = (p.compared ≡ Nothing) × (p.split ≡ None)
+
+abbrev pub RulesFit : RuleVersion → Kind → Point → Type 0
+RulesFit Two kind p = IsWithoutRules p
+RulesFit Three Main p = ComparedFits p.compared × SplitFits p.split
+RulesFit Three Handler p = IsWithoutRules p
+RulesFit Three Alone p = IsWithoutRules p
+
 -- the numbers of points, of this many, rising
 pub record SuccessorsFit (points : ℕ) (ids : List ℕ) : Type 0 where
   pub few : length ids ≤ 16
@@ -242,7 +276,7 @@ pub record SuccessorsFit (points : ℕ) (ids : List ℕ) : Type 0 where
 
 pub record PointFits (h : Head) (lines points : ℕ) (p : Point) : Type 0 where
   pub kind : PointKindFits p.kind p
-  pub told : IsPointTold p
+  pub rules : RulesFit h.version p.kind p
   pub pc : p.pc < 32768
   pub box : BoxFits lines p
   pub core : CoreFits p

@@ -59,6 +59,32 @@ pub enum Val {
     OldFlags,
 }
 
+/// The second operand of a comparison.
+#[derive(Clone, Copy, PartialEq, Eq)]
+pub enum Against {
+    /// A register, 0 to 31.
+    Register(u8),
+    /// A constant.
+    Constant(u8),
+}
+
+/// What the flags C, Z, N, V and S tell.
+#[derive(Clone, Copy, PartialEq, Eq)]
+pub enum Compared {
+    /// Nothing.
+    Nothing,
+    /// They are those of a register less another byte.
+    Byte(u8, Against),
+    /// They are those of a pair less another, by its low byte and its high register.
+    Pair(u8, Against, u8),
+    /// The register holds a byte of the range less this constant, and they are those of that difference.
+    Result(u8, u8, Span),
+    /// The pair holds a number of the range less this constant, and they are those of that difference.
+    PairResult(u8, u16, Wide),
+    /// Z and N are those of the register's own byte.
+    Value(u8),
+}
+
 impl Hash for Val {
     ghost use Rattle.uz_schedule.specs.HashWrites.{val_writes};
 

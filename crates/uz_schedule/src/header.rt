@@ -1,6 +1,6 @@
 //! The head of a certificate.
 
-use crate::kinds::{Owner, Response};
+use crate::kinds::{Owner, Response, RuleVersion};
 use crate::ranges::Span;
 use arrayvec::ArrayVec;
 
@@ -30,4 +30,6 @@ pub struct Head {
     pub handler: u8,
     /// The tracked cells, addresses rising.
     pub cells: ArrayVec<Cell, 16>,
+    /// By which rules the certificate is judged.
+    pub version: RuleVersion,
 }

@@ -117,6 +117,7 @@ pub fn instance_of(point: &Point, line: u16, count: u8, clock: u16, level: u8) -
         regs,
         pairs,
         flags: point.flags,
+        compared: point.compared,
         stack: slots_of(&point.stack, line, count),
         cells: cells_of(&point.cells, line, count),
         ..Instance::default()

@@ -32,6 +32,14 @@ pub enum Kind {
     Alone,
 }
 
+/// By which rules a certificate is judged: those of version 2, which know nothing of comparisons, or those of version 3.
+#[derive(Clone, Copy, Default, PartialEq, Eq)]
+pub enum RuleVersion {
+    #[default]
+    Two,
+    Three,
+}
+
 /// Who writes a tracked cell of RAM: the main loop or the interrupt handler.
 #[derive(Clone, Copy, Default)]
 pub enum Owner {

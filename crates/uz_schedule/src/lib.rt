@@ -4,6 +4,7 @@
 
 mod certificate;
 mod certificate_limits;
+mod comparison_limits;
 mod entries;
 mod fact_limits;
 mod fact_values;
@@ -29,10 +30,10 @@ mod tracked;
 pub use certificate::Cert;
 pub use certificate_limits::well_formed;
 pub use fact_values::{hull_of_bytes, pair_by, span_of, val_of, word_at};
-pub use facts::{Bit, Fact, PairFact, Val};
+pub use facts::{Against, Bit, Compared, Fact, PairFact, Val};
 pub use header::{Cell, Head};
 pub use instances::{clock_below, clock_of, entry_state, handler_entry, instance_of, is_in_box};
-pub use kinds::{Kind, Owner, Response};
+pub use kinds::{Kind, Owner, Response, RuleVersion};
 pub use laws::{
     equal_instances_are_one, event_by_line, instance_is_within_limits, level_exists, level_goes_on,
     lines_have_lengths, places_go_on, positions_go_round,

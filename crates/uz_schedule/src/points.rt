@@ -7,6 +7,7 @@ ghost use Rattle.uz_schedule.specs.WellFormed.{is_carry_and_zero_default as carr
 ghost use Rattle.uz_schedule.specs.WellFormed.{is_default_flag as default_flag, is_without_text as without_text};
 ghost use Rattle.uz_schedule.specs.WellFormed.{SuccessorsFit, PointFits, instances_of as instances_of_point, PointsFit};
 
+use crate::comparison_limits::rules_fit;
 use crate::fact_limits::{cell_facts_fit, flags_fit, pairs_fit, registers_fit, slots_fit};
 use crate::{
     Bit, CLOCK_LIMIT, Head, Kind, PairFact, Point, SCANLINE, Span, is_top, rises as numbers_rise,
@@ -135,6 +136,7 @@ fn point_fits(head: &Head, lines: usize, points: usize, point: &Point) -> bool
     ensures { IsTrue result ↔ PointFits head.now lines points point.now }
 {
     point_kind_fits(point)
+        && rules_fit(head.version, point)
         && point.pc < FLASH_WORDS
         && box_fits(lines, point)
         && core_fits(point)

@@ -1,6 +1,6 @@
 //! Points, the states that they stand for, and the states where runs enter.
 
-use crate::facts::{Bit, Fact, PairFact, Val};
+use crate::facts::{Bit, Compared, Fact, PairFact, Val};
 use crate::kinds::Kind;
 use crate::line_order::SCANLINE;
 use crate::ranges::{Span, Wide};
@@ -75,6 +75,10 @@ pub struct Point {
     pub pairs: [PairFact; 3],
     /// What is known of the flags C, Z, N, V, S, H and T.
     pub flags: [Bit; 7],
+    /// What the flags tell of main's last comparison or result: nothing by the rules of version 2.
+    pub compared: Compared,
+    /// The register by whose values a result may be covered, 0 to 31: of main by the rules of version 3.
+    pub split: Option<u8>,
     /// What is known of each byte of the stack, from the bottom.
     pub stack: ArrayVec<Fact, 32>,
     /// What is known of each cell that its kind tracks.
@@ -88,6 +92,8 @@ pub struct Point {
 pub struct Instance {
     /// What it belongs to.
     pub kind: Kind,
+    /// What is known of the flags C, Z, N, V, S, H and T.
+    pub flags: [Bit; 7],
     /// The program counter, a word address below 32,768.
     pub pc: u16,
     /// The line, counted from 0.
@@ -106,8 +112,8 @@ pub struct Instance {
     pub regs: [Val; 32],
     /// The values that the pairs X, Y and Z may have.
     pub pairs: [Wide; 3],
-    /// What is known of the flags C, Z, N, V, S, H and T.
-    pub flags: [Bit; 7],
+    /// What the flags tell of main's last comparison or result: nothing by the rules of version 2.
+    pub compared: Compared,
     /// What is known of each byte of the stack, from the bottom.
     pub stack: ArrayVec<Val, 32>,
     /// The values that each cell may have that its kind tracks.
@@ -156,8 +162,13 @@ impl Default for Instance {
             regs: [Val::Range(Span::between(0, 255)); 32],
             pairs: [Wide::between(0, 65535); 3],
             flags: [Bit::Free; 7],
+            compared: Compared::Nothing,
             stack: ArrayVec::new(),
             cells: ArrayVec::new(),
         }
     }
 }
+
+const _: () = prove!(std::mem::size_of::<Instance>() == 280);
+
+const _: () = prove!(std::mem::size_of::<Point>() == 384);
