@@ -4,6 +4,7 @@ use Rattle.std.proofs.Common.{nat_lt, nat_le, refl, arith}
 use Rattle.std.proofs.lemmas.Bool.Decides.{nat_tests}
 use Rattle.uz_schedule.specs.Ends.{Ends}
 use Rattle.uz_range.specs.Answers.{is_single}
+use Rattle.uz_range.specs.Narrowing.{by_value, against, valued, of_part, either_one, result_narrowed}
 use Rattle.uz_range.specs.Narrowing.{between, common, lower, upper, both, joined, either, below, not_below, by_carry, without}
 use Rattle.uz_range.specs.Narrowing.{apart, by_zero, of_one_sign, of_two_signs, by_sign, less, left_less}
 use Rattle.uz_range.specs.Narrowing.{LiesIn, BothLieIn, LeftLiesIn}
@@ -125,3 +126,33 @@ sign_lies half s a b =
 pub less_lies : (half k : ℕ) (now : Ends) (p : Option (Ends × Ends)) → LeftLiesIn now (left_less half k now p)
 less_lies half k now None = tt
 less_lies half k now (Some p) = second_lies (less half p.0 k) now
+
+value_lies : (half j : ℕ) (s : Bool) (now : Ends) → now.lo ≤ now.hi → LeftLiesIn now (by_value half j s now)
+value_lies half j s now l =
+    left_if (nat_eq j 1) _ _ now
+    (λ t. left_if s _ _ now (λ u. between_lies _ _ now (omega arith) (omega arith)) (λ u. between_lies _ _ now (omega arith) (omega arith)))
+    (λ t. left_if (nat_eq j 2) _ _ now
+    (λ t'. left_if s _ _ now (λ u. upper_lies half now) (λ u. lower_lies half now))
+    (λ t'. itself now l))
+
+left_within : (p : Option Ends) (c a : Ends) → LeftLiesIn c p → LiesIn c a → LeftLiesIn a p
+left_within None c a f g = tt
+left_within (Some e) c a f g = within e c a f g
+
+valued_lies : (half j : ℕ) (s : Bool) (p : Option Ends) (a : Ends) → LeftLiesIn a p → LeftLiesIn a (valued half j s p)
+valued_lies half j s None a f = tt
+valued_lies half j s (Some e) a f = left_within (by_value half j s e) e a (value_lies half j s e f.ordered) f
+
+either_one_lies : (p q : Option Ends) (a : Ends) → LeftLiesIn a p → LeftLiesIn a q → LeftLiesIn a (either_one p q)
+either_one_lies None q a f g = g
+either_one_lies (Some e) None a f g = f
+either_one_lies (Some e) (Some e') a f g = joined_lies e e' a f g
+
+part_lies : (half j : ℕ) (s : Bool) (k : ℕ) (now : Ends) (part : Option Ends) → LeftLiesIn now (of_part half j s k now part)
+part_lies half j s k now part =
+    valued_lies half j s (left_less half k now (against half j s k part)) now (less_lies half k now (against half j s k part))
+
+pub result_lies : (half j : ℕ) (s : Bool) (old : Ends) (k : ℕ) (now : Ends) → LeftLiesIn now (result_narrowed half j s old k now)
+result_lies half j s old k now =
+    either_one_lies (of_part half j s k now (lower k old)) (of_part half j s k now (upper k old)) now
+    (part_lies half j s k now (lower k old)) (part_lies half j s k now (upper k old))

@@ -40,10 +40,10 @@ both_keep None q x y hx hy = hx
 both_keep (Some a) None x y hx hy = hy
 both_keep (Some a) (Some b) x y hx hy = (hx, hy)
 
-joined_left : (a b : Ends) (v : ℕ) → IsWithin v a → IsWithin v (joined a b)
+pub joined_left : (a b : Ends) (v : ℕ) → IsWithin v a → IsWithin v (joined a b)
 joined_left a b v h = record { above = omega (arith, h.above); below = omega (arith, h.below) }
 
-joined_right : (a b : Ends) (v : ℕ) → IsWithin v b → IsWithin v (joined a b)
+pub joined_right : (a b : Ends) (v : ℕ) → IsWithin v b → IsWithin v (joined a b)
 joined_right a b v h = record { above = omega (arith, h.above); below = omega (arith, h.below) }
 
 either_first : (p q : Option (Ends × Ends)) (x y : ℕ) → KeepsBoth x y p → KeepsBoth x y (either p q)

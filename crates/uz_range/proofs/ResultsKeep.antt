@@ -8,8 +8,9 @@ use Rattle.uz_schedule.specs.Ends.{Ends}
 use Rattle.uz_range.specs.Containment.{IsWithin}
 use Rattle.uz_range.specs.Answers.{ends}
 use Rattle.uz_range.specs.Narrowing.{by_value, less, left_less, narrowed, result_narrowed, middle, bit_narrowed, Keeps, KeepsBoth}
+use Rattle.uz_range.specs.Narrowing.{against, valued, of_part, either_one, lower, upper}
 use Rattle.uz_range.specs.Flags.{flag_after, byte_flag, pair_flag, difference_value}
-use Rattle.uz_range.proofs.Narrows.{keep_one, common_keeps, between_keeps, lower_keeps, upper_keeps, IsSign}
+use Rattle.uz_range.proofs.Narrows.{keep_one, common_keeps, between_keeps, lower_keeps, upper_keeps, IsSign, joined_left, joined_right}
 use Rattle.uz_range.proofs.FlagsOfBytes.{some_is, Tell, narrowed_keeps, byte_tells}
 use Rattle.uz_range.proofs.FlagsOfPairs.{pair_tells}
 
@@ -59,16 +60,48 @@ left_keeps : (half k : ℕ) (now : Ends) (p : Option (Ends × Ends)) (x v : ℕ)
 left_keeps half k now None x v h is hv = h
 left_keeps half k now (Some p) x v h is hv = common_keeps (less half p.0 k) now v (less_holds half p.0 k x v h.0 is) hv
 
+against_keeps : (half j : ℕ) (s : Bool) (k : ℕ) (part : Option Ends) (x : ℕ) (flag : ℕ → Option Bool) → Keeps x part → Tell half x k flag
+    → flag j ≡ Some s → KeepsBoth x k (against half j s k part)
+against_keeps half j s k None x flag hx tell h = hx
+against_keeps half j s k (Some a) x flag hx tell h =
+    narrowed_keeps half j s a (ends k k) x k flag hx (record { above = omega arith; below = omega arith }) tell h
+
+valued_keeps : (half j : ℕ) (s : Bool) (p : Option Ends) (v : ℕ) → Keeps v p → (j ≡ 1 → nat_eq v 0 ≡ s) → (j ≡ 2 → nat_le half v ≡ s)
+    → Keeps v (valued half j s p)
+valued_keeps half j s None v h f g = h
+valued_keeps half j s (Some e) v h f g = value_keeps half j s e v h f g
+
+first_keeps : (p q : Option Ends) (v : ℕ) → Keeps v p → Keeps v (either_one p q)
+first_keeps None q v h = absurd h
+first_keeps (Some a) None v h = h
+first_keeps (Some a) (Some b) v h = joined_left a b v h
+
+second_keeps : (p q : Option Ends) (v : ℕ) → Keeps v q → Keeps v (either_one p q)
+second_keeps None q v h = h
+second_keeps (Some a) None v h = absurd h
+second_keeps (Some a) (Some b) v h = joined_right a b v h
+
 pub result_keeps : (half j : ℕ) (s : Bool) (old : Ends) (k : ℕ) (now : Ends) (x v : ℕ) (flag : ℕ → Option Bool) → IsWithin x old
     → IsWithin v now → IsLess half x k v → Tell half x k flag → (flag 1 ≡ Some (nat_eq v 0)) → (flag 2 ≡ Some (nat_le half v))
     → flag j ≡ Some s → Keeps v (result_narrowed half j s old k now)
-result_keeps half j s old k now x v flag hx hv is tell is_zero negative h =
-    keep_one (nat_eq j 0 || nat_eq j 4) _ _ v
-    (λ t. left_keeps half k now (narrowed half j s old (ends k k)) x v
-    (narrowed_keeps half j s old (ends k k) x k flag hx (record { above = omega arith; below = omega arith }) tell h) is hv)
-    (λ t. value_keeps half j s now v hv
-    (λ e. some_is _ _ (sym is_zero ∙ subst (λ i. flag i ≡ Some s) e h))
-    (λ e. some_is _ _ (sym negative ∙ subst (λ i. flag i ≡ Some s) e h)))
+result_keeps half j s old k now x v flag hx hv is tell is_zero negative h = by_order (nat_lt x k) refl
+  where
+    of_its_part : (part : Option Ends) → Keeps x part → Keeps v (of_part half j s k now part)
+    of_its_part part hp =
+        valued_keeps half j s (left_less half k now (against half j s k part)) v
+        (left_keeps half k now (against half j s k part) x v (against_keeps half j s k part x flag hp tell h) is hv)
+        (λ e. some_is _ _ (sym is_zero ∙ subst (λ i. flag i ≡ Some s) e h))
+        (λ e. some_is _ _ (sym negative ∙ subst (λ i. flag i ≡ Some s) e h))
+
+    by_order : (t : Bool) → t ≡ nat_lt x k → Keeps v (result_narrowed half j s old k now)
+    by_order true e =
+        let u : x < k = grind (arith, nat_tests) in
+        first_keeps (of_part half j s k now (lower k old)) (of_part half j s k now (upper k old)) v
+        (of_its_part (lower k old) (lower_keeps k old x hx u))
+    by_order false e =
+        let u : k ≤ x = grind (arith, nat_tests) in
+        second_keeps (of_part half j s k now (lower k old)) (of_part half j s k now (upper k old)) v
+        (of_its_part (upper k old) (upper_keeps k old x hx u))
 
 -- SUBI and SBCI
 

@@ -1,7 +1,7 @@
 -- Narrowing (this project's profile): what is left of the ranges of numbers, where a flag of them is known (C, Z, N, V, S, H, T by their
 -- bits in SREG, 0 to 6). None: no numbers of the ranges have the flag so. Numbers lie below twice `half`, which is 128 for bytes and
 -- 32,768 for pairs; in two's complement those from `half` on are negative.
-use Rattle.std.specs.Prelude.{ℕ, ◌+◌, ◌-◌, ◌/◌, ◌%◌, ◌*◌, ◌^◌, ◌≤◌, ⊤, Bool, ◌||◌, Option, Some, None, min, max, nat_lt, nat_le, nat_eq}
+use Rattle.std.specs.Prelude.{ℕ, ◌+◌, ◌-◌, ◌/◌, ◌%◌, ◌*◌, ◌^◌, ◌≤◌, ⊤, Bool, Option, Some, None, min, max, nat_lt, nat_le, nat_eq}
 use Rattle.std.specs.Prelude.{if◌then◌else◌}
 use Rattle.uz_schedule.specs.Ends.{Ends}
 use Rattle.uz_range.specs.Answers.{ends, is_single}
@@ -109,15 +109,31 @@ less half a k =
     if nat_le k a.lo then ends (a.lo - k) (a.hi - k) else
     if nat_lt a.hi k then ends (half + half + a.lo - k) (half + half + a.hi - k) else ends 0 (half + half - 1)
 
+abbrev pub against : ℕ → ℕ → Bool → ℕ → Option Ends → Option (Ends × Ends)
+against half flag is_set k None = None
+against half flag is_set k (Some a) = narrowed half flag is_set a (ends k k)
+
 abbrev pub left_less : ℕ → ℕ → Ends → Option (Ends × Ends) → Option Ends
 left_less half k now None = None
 left_less half k now (Some p) = common (less half p.0 k) now
 
--- by C or S of the old number less k, or by Z or N of the result itself
+abbrev pub valued : ℕ → ℕ → Bool → Option Ends → Option Ends
+valued half flag is_set None = None
+valued half flag is_set (Some e) = by_value half flag is_set e
+
+-- of a part of the old range: by C, Z or S of the old number less k, and by Z or N of the result itself
+abbrev pub of_part : ℕ → ℕ → Bool → ℕ → Ends → Option Ends → Option Ends
+of_part half flag is_set k now part = valued half flag is_set (left_less half k now (against half flag is_set k part))
+
+abbrev pub either_one : Option Ends → Option Ends → Option Ends
+either_one None q = q
+either_one (Some a) None = Some a
+either_one (Some a) (Some b) = Some (joined a b)
+
+-- the old numbers below k and those from k on apart
 abbrev pub result_narrowed : ℕ → ℕ → Bool → Ends → ℕ → Ends → Option Ends
 result_narrowed half flag is_set old k now =
-    if nat_eq flag 0 || nat_eq flag 4 then left_less half k now (narrowed half flag is_set old (ends k k)) else
-    by_value half flag is_set now
+    either_one (of_part half flag is_set k now (lower k old)) (of_part half flag is_set k now (upper k old))
 
 -- A byte, by one of its bits, 0 to 7
 

@@ -2,7 +2,7 @@
 
 ghost use Rattle.std.specs.Prelude.{◌≡◌, ◌<◌};
 ghost use Rattle.uz_range.specs.Narrowing.{between as between_ends, common as common_ends, lower as lower_part};
-ghost use Rattle.uz_range.specs.Narrowing.{upper as upper_part, both as both_ends, joined as joined_ends, either as either_ends};
+ghost use Rattle.uz_range.specs.Narrowing.{upper as upper_part, both as both_ends, joined as joined_ends, either as either_ends, either_one as either_one_ends};
 
 use uz_schedule::Wide;
 
@@ -22,10 +22,9 @@ pub fn common(a: Wide, b: Wide) -> Option<Wide>
 
 /// The numbers of a range that aren't negative, those below `half`.
 pub fn lower(half: u16, a: Wide) -> Option<Wide>
-    requires { 0 < half }
     ensures { result ≡ lower_part half a }
 {
-    between(a.lo(), a.hi().min(half - 1))
+    between(a.lo(), a.hi().min(half.saturating_sub(1)))
 }
 
 /// The numbers of a range that are negative, those from `half` on.
@@ -64,6 +63,19 @@ pub fn either(p: Option<(Wide, Wide)>, q: Option<(Wide, Wide)>) -> Option<(Wide,
         Some(p) => match q {
             None => Some(p),
             Some(q) => Some((joined(p.0, q.0), joined(p.1, q.1))),
+        },
+    }
+}
+
+/// The least range that holds what either is.
+pub fn either_one(a: Option<Wide>, b: Option<Wide>) -> Option<Wide>
+    ensures { result ≡ either_one_ends a b }
+{
+    match a {
+        None => b,
+        Some(a) => match b {
+            None => Some(a),
+            Some(b) => Some(joined(a, b)),
         },
     }
 }

@@ -1,11 +1,11 @@
 //! Narrowing of a number by a flag of itself, or of the subtraction that made it. Numbers lie below twice `half`.
 
 ghost use Rattle.std.specs.Prelude.{◌≡◌, ◌<◌, ◌≤◌, ◌+◌, ℕ};
-ghost use Rattle.uz_range.specs.Narrowing.{by_value as by_value_ends, less as less_ends, left_less as left_less_ends};
+ghost use Rattle.uz_range.specs.Narrowing.{by_value as by_value_ends, less as less_ends, left_less as left_less_ends, against as against_ends, valued as valued_ends, of_part as of_part_ends};
 ghost use Rattle.uz_range.specs.Narrowing.{result_narrowed as result_narrowed_ends, bit_narrowed, LeftLiesIn, middle as middle_number};
 
 use crate::differences::narrowed;
-use crate::empty_ranges::{between, common, lower, upper};
+use crate::empty_ranges::{between, common, either_one, lower, upper};
 use uz_schedule::Wide;
 
 /// What flag Z or N of a number leaves of its range.
@@ -57,6 +57,37 @@ fn left_less(half: u16, k: u16, now: Wide, left: Option<(Wide, Wide)>) -> Option
     }
 }
 
+/// What is left of a part of the old range, and of `k`.
+fn against(half: u16, flag: u8, is_set: bool, k: u16, part: Option<Wide>) -> Option<(Wide, Wide)>
+    requires { 0 < half }
+    ensures { result ≡ against_ends half flag is_set k part }
+{
+    match part {
+        Some(part) => narrowed(half, flag, is_set, part, Wide::single(k)),
+        None => None,
+    }
+}
+
+/// What is left of a range, by Z or N.
+fn valued(half: u16, flag: u8, is_set: bool, now: Option<Wide>) -> Option<Wide>
+    requires { 0 < half }
+    ensures { result ≡ valued_ends half flag is_set now }
+{
+    match now {
+        Some(now) => by_value(half, flag, is_set, now),
+        None => None,
+    }
+}
+
+/// What is left of the range `now`, of results that come of a part of the old range.
+fn of_part(half: u16, flag: u8, is_set: bool, k: u16, now: Wide, part: Option<Wide>) -> Option<Wide>
+    requires { (0 < half) × (half ≤ 32768) × (k < half + half) }
+    ensures { result ≡ of_part_ends half flag is_set k now part }
+{
+    let left = left_less(half, k, now, against(half, flag, is_set, k, part));
+    valued(half, flag, is_set, left)
+}
+
 /// What a flag leaves of the range `now` of a result, which is a number of `old` less `k`.
 pub fn result_narrowed(
     half: u16,
@@ -70,16 +101,18 @@ pub fn result_narrowed(
     ensures row { result ≡ result_narrowed_ends half flag is_set old k now }
     ensures inside { now.lo ≤ now.hi → LeftLiesIn now result }
 {
-    if flag == 0 || flag == 4 {
-        left_less(
-            half,
-            k,
-            now,
-            narrowed(half, flag, is_set, old, Wide::single(k)),
-        )
-    } else {
-        by_value(half, flag, is_set, now)
-    }
+    result_by_parts(half, flag, is_set, old, k, now)
+}
+
+/// What [`result_narrowed`] answers.
+fn result_by_parts(half: u16, flag: u8, is_set: bool, old: Wide, k: u16, now: Wide) -> Option<Wide>
+    requires { (0 < half) × (half ≤ 32768) × (k < half + half) }
+    ensures { result ≡ result_narrowed_ends half flag is_set old k now }
+{
+    either_one(
+        of_part(half, flag, is_set, k, now, lower(k, old)),
+        of_part(half, flag, is_set, k, now, upper(k, old)),
+    )
 }
 
 /// What a bit (0 to 7) of a byte leaves of its range.

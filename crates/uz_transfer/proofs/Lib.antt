@@ -3,3 +3,4 @@ pub mod StepsOf
 pub mod NumberLaws
 pub mod Refused
 pub mod StoredPointer
+pub mod LeftLemmas

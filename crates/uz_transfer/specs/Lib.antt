@@ -5,6 +5,8 @@ pub mod Memory
 pub mod Timer
 pub mod Transfer
 pub mod Exits
+pub mod Compared
+pub mod Narrowed
 pub mod Emission
 pub mod Refusals
 pub mod InTime

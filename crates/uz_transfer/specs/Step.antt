@@ -22,6 +22,8 @@ use Rattle.uz_transfer.specs.declared.fail.Fail.TheVariants.{Clock, Edge, Opcode
 use Rattle.uz_transfer.specs.declared.step.Exit.{Exit}
 use Rattle.uz_transfer.specs.declared.step.Step.{Step}
 use Rattle.uz_transfer.specs.Values.{value_at}
+use Rattle.uz_transfer.specs.Compared.{compared_after, with_compared}
+use Rattle.uz_transfer.specs.Narrowed.{test_of}
 use Rattle.uz_transfer.specs.Kinds.{is_main, is_handler}
 use Rattle.uz_transfer.specs.Memory.{address_range}
 use Rattle.uz_transfer.specs.Timer.{temp_after, top_after, with_timer}
@@ -52,8 +54,8 @@ sampled_of length e clocks inst = (inst.clock + sample_clock e clocks) % length
 -- what is known after an effect, wherever it leads; `length` is that of the instance's line
 abbrev pub draft_of : Head → ℕ → FinMap nat_cmp ℕ → Effect → ℕ → (Outcome → ℕ) → Instance → Instance
 draft_of head length image e words clocks inst =
-    with_timer (top_after e inst) (temp_after (sampled_of length e clocks inst) e inst)
-    (transfer head image (following_of words inst) (sampled_of length e clocks inst) e inst)
+    with_compared (compared_after head e inst) (with_timer (top_after e inst) (temp_after (sampled_of length e clocks inst) e inst)
+    (transfer head image (following_of words inst) (sampled_of length e clocks inst) e inst))
 
 -- where an effect leads
 abbrev pub all_exits : FinMap nat_cmp ℕ → Effect → ℕ → (Outcome → ℕ) → Instance → List Exit
@@ -75,6 +77,7 @@ step_of head lines image e words clocks inst =
       emit = None;
       back = returns_from_interrupt e;
       clears = clears_flag e inst;
+      test = test_of head e inst;
     })
 
 -- Places

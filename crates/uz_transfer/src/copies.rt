@@ -48,7 +48,7 @@ fn copy_cells(cells: &mut ArrayVec<Span, 16>, from: &[Span])
 }
 
 /// A copy of a value, at once.
-fn copy_of<T: Copy>(value: &T) -> T
+pub(crate) fn copy_of<T: Copy>(value: &T) -> T
     ensures { result ≡ value.now }
 {
     *value
@@ -81,6 +81,7 @@ pub(crate) fn copy_to(draft: &mut Instance, at: &Instance)
     draft.regs = copy_of(&at.regs);
     draft.pairs = at.pairs;
     draft.flags = at.flags;
+    draft.compared = at.compared;
     copy_slots(&mut draft.stack, at.stack.as_slice());
     copy_cells(&mut draft.cells, at.cells.as_slice());
 }

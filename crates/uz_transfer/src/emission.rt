@@ -105,7 +105,7 @@ pub(crate) fn store_event(at: &Instance, a: &Wide, v: &Val) -> Option<Option<Eve
 }
 
 /// What is emitted. None is undecided.
-pub(crate) fn emission(e: Effect, at: &Instance) -> Option<Option<EventKind>>
+pub fn emission(e: Effect, at: &Instance) -> Option<Option<EventKind>>
     requires fits { EffectFits e }
     ensures { result ≡ emitted e at.now }
 {

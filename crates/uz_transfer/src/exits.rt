@@ -147,7 +147,7 @@ fn moved(pc: u16, words: u16) -> u16
 }
 
 /// BRBS, BRBC.
-pub(crate) fn branch(
+pub fn branch(
     at: &Instance,
     i: &Instr,
     following: u16,
@@ -166,7 +166,7 @@ pub(crate) fn branch(
 }
 
 /// CPSE, SBRC, SBRS, SBIC, SBIS.
-pub(crate) fn skip(
+pub fn skip(
     at: &Instance,
     image: &Image,
     i: &Instr,

@@ -2,6 +2,8 @@
 #![tactic(auto)]
 
 mod arithmetic;
+mod asking;
+mod comparing;
 mod copies;
 mod emission;
 mod exits;
@@ -9,6 +11,7 @@ mod fail;
 mod in_time;
 mod loads;
 mod memory;
+mod narrowing;
 mod one_step;
 mod refusals;
 mod result_place;
@@ -19,8 +22,11 @@ mod transfer;
 mod values;
 
 pub use copies::copied;
-pub use emission::main_emits;
+pub use emission::{emission as shown_by, main_emits};
+pub use exits::{branch as branch_exits, skip as skip_exits};
 pub use fail::Fail;
+pub use narrowing::{Left, left_at, put_left, span_at};
 pub use one_step::{abstract_step, put_step, word_after};
 pub use result_place::put_at;
-pub use step::{Exit, Step};
+pub use step::{Exit, Step, Test};
+pub use values::set_val;

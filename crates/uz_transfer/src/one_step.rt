@@ -16,6 +16,8 @@ ghost use Rattle.uz_transfer.specs.Refusals.{fail_of as fail_of_effect};
 ghost use Rattle.uz_transfer.specs.Step.{draft_of as known_after, step_of_row, step_of as step_of_effect, IsStep};
 ghost use Rattle.uz_transfer.specs.declared.fail.Fail.TheVariants.{Clock, Edge};
 
+use crate::asking::test_of;
+use crate::comparing::put_compared;
 use crate::copies::copy_to;
 use crate::emission::{clears, emission};
 use crate::exits::exits;
@@ -92,6 +94,7 @@ fn put_known(
     let sampled = sampled(at.clock, line_length, sample(e, i));
     transfer(draft, head, image, following, sampled, e);
     put_timer(draft, at, sampled, e);
+    put_compared(draft, head, at, e);
 }
 
 /// Puts the abstract step of an instance under an instruction in place of another, in a frame of this schedule's lines. Where there is
@@ -141,6 +144,7 @@ pub fn put_step(
     step.emit = emit;
     step.back = is_return(e);
     step.clears = clears(e, at);
+    step.test = test_of(head, e, at);
     Ok(())
 }
 

@@ -12,11 +12,25 @@ pub struct Exit {
     pub clocks: u8,
 }
 
-/// What an instruction makes of an instance. OCR1A, TEMP, registers, pairs, flags, stack and cells are the
-/// same wherever it goes.
+/// What an instruction asks of main's state, of which each exit tells, by the rules of version 3.
+#[derive(Clone, Copy)]
+pub enum Test {
+    /// Nothing that is known of.
+    Nothing,
+    /// A flag, by its bit in SREG, which has this value where the branch is taken.
+    Flag(u8, bool),
+    /// Whether two registers are equal.
+    Equal(u8, u8),
+    /// A bit of a register, which has this value where the next instruction is skipped.
+    Bit(u8, u8, bool),
+}
+
+/// What an instruction makes of an instance. OCR1A, TEMP, registers, pairs, flags, what
+/// they tell, stack and cells are the same wherever it goes.
 #[derive(Drop)]
 pub struct Step {
-    /// Its OCR1A, TEMP, registers, pairs, flags, stack and cells are those of each result; the rest is the instance's own.
+    /// Its OCR1A, TEMP, registers, pairs, flags, what they tell, stack and cells are those of each result; the rest is the
+    /// instance's own.
     pub draft: Instance,
     /// Where it goes.
     pub exits: ArrayVec<Exit, 16>,
@@ -26,6 +40,8 @@ pub struct Step {
     pub back: bool,
     /// Whether TIFR1 is stored with bit 1 set.
     pub clears: bool,
+    /// What it asks of main's state.
+    pub test: Test,
 }
 
 impl Step {
@@ -37,6 +53,7 @@ impl Step {
             emit: None,
             back: false,
             clears: false,
+            test: Test::Nothing,
         }
     }
 }

@@ -107,7 +107,7 @@ pub(crate) fn exact_pair(at: &Instance, d: u8) -> Wide
 }
 
 /// A register takes a value, and its pair the hull of its bytes.
-pub(crate) fn set_val(at: &mut Instance, d: u8, v: Val)
+pub fn set_val(at: &mut Instance, d: u8, v: Val)
     requires { d < 32 }
     ensures { at.new ≡ with_value d v at.old }
 {
