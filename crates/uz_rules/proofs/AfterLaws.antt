@@ -1,16 +1,20 @@
 -- The abstract results from the step.
-use Rattle.std.proofs.Common.{◌≡◌, ℕ, ◌∙◌, ap}
+use Rattle.std.proofs.Common.{◌≡◌, ℕ, zero, suc, ◌≤◌, take, List, [], ◌∷◌, ◌++◌, Option, Some, None, length, map, refl, sym, ◌∙◌, ap, append_assoc, arith}
 use Rattle.std.specs.Prelude.{Ok, Err}
+use Rattle.std.proofs.lemmas.List.{append-nil}
 use Rattle.std.specs.Ordering.{nat_cmp}
 use Rattle.std.specs.FinMap.{FinMap}
 use Rattle.uz_schedule.specs.declared.header.Head.{Head}
 use Rattle.uz_schedule.specs.declared.states.Instance.{Instance}
 use Rattle.uz_schedule.specs.Lines.{Lines}
 use Rattle.uz_transfer.specs.declared.fail.Fail.{Fail}
+use Rattle.uz_transfer.specs.declared.step.Exit.{Exit}
 use Rattle.uz_transfer.specs.declared.step.Step.{Step}
-use Rattle.uz_transfer.specs.Step.{IsStep}
+use Rattle.uz_transfer.specs.declared.step.Test.TheVariants as asks
+use Rattle.uz_transfer.specs.Narrowed.{narrowed}
+use Rattle.uz_transfer.specs.Step.{IsStep, successor}
 use Rattle.uz_rules.specs.declared.next.Next.{Next}
-use Rattle.uz_rules.specs.After.{next_of, IsAfter}
+use Rattle.uz_rules.specs.After.{if_there, results_of, next_of, IsAfter}
 
 pub after_ok : (head : Head) (lines : Lines) (image : FinMap nat_cmp ℕ) (inst : Instance) (step : Step) (next : Next)
     → IsStep head lines image inst (Ok step) → Ok next ≡ next_of lines inst (Ok step) → IsAfter head lines image inst (Ok next)
@@ -19,3 +23,37 @@ after_ok head lines image inst step next s e = record { row = s.row; reads = s.r
 pub after_err : (head : Head) (lines : Lines) (image : FinMap nat_cmp ℕ) (inst : Instance) (why : Fail)
     → IsStep head lines image inst (Err why) → IsAfter head lines image inst (Err why)
 after_err head lines image inst why s = record { row = s.row; reads = s.reads; is = ap (next_of lines inst) s.is }
+
+-- one exit more
+pub results_more : (lines : Lines) (inst : Instance) (step : Step) (exits : List Exit) (exit : Exit)
+    → results_of lines inst step (exits ++ exit ∷ [])
+    ≡ results_of lines inst step exits ++ if_there (narrowed step.test exit (successor lines inst step exit))
+results_more lines inst step [] exit = append-nil _
+results_more lines inst step (x ∷ exits) exit =
+    ap (λ l. if_there (narrowed step.test x (successor lines inst step x)) ++ l) (results_more lines inst step exits exit)
+    ∙ sym (append_assoc (if_there (narrowed step.test x (successor lines inst step x))) (results_of lines inst step exits)
+    (if_there (narrowed step.test exit (successor lines inst step exit))))
+
+pub few_results : (lines : Lines) (inst : Instance) (step : Step) (exits : List Exit)
+    → length (results_of lines inst step exits) ≤ length exits
+few_results lines inst step [] = omega arith
+few_results lines inst step (x ∷ exits) =
+    by_case (narrowed step.test x (successor lines inst step x)) (results_of lines inst step exits) (few_results lines inst step exits)
+  where
+    by_case : (o : Option Instance) (rest : List Instance) → length rest ≤ length exits → length (if_there o ++ rest) ≤ suc (length exits)
+    by_case None rest h = omega (arith, h)
+    by_case (Some result) rest h = omega (arith, h)
+
+-- where nothing is asked, each exit has its result
+pub results_plain : (lines : Lines) (inst : Instance) (step : Step) → step.test ≡ asks.Nothing → (exits : List Exit)
+    → results_of lines inst step exits ≡ map (successor lines inst step) exits
+results_plain lines inst step none [] = refl
+results_plain lines inst step none (x ∷ exits) =
+    ap (λ t. if_there (narrowed t x (successor lines inst step x)) ++ results_of lines inst step exits) none
+    ∙ ap (λ l. successor lines inst step x ∷ l) (results_plain lines inst step none exits)
+
+pub take_few : {A : Type 0} (i : ℕ) (xs : List A) → length (take i xs) ≤ i
+take_few zero [] = omega arith
+take_few zero (x ∷ xs) = omega arith
+take_few (suc i) [] = omega arith
+take_few (suc i) (x ∷ xs) = let h = take_few i xs in omega (arith, h)

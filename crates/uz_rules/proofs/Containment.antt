@@ -30,7 +30,7 @@ use Rattle.uz_core.specs.Space.{Space, history_wiring, byte_at, space_after, spa
 use Rattle.uz_core.specs.Turn.{State, sync_level, all_edge_kinds, state_after, edges_at, is_entry, after_instruction, instruction_edges}
 use Rattle.uz_core.specs.Turn.{Turn}
 use Rattle.uz_core.specs.StateRange.{IsState}
-use Rattle.uz_core.specs.CoreRange.{IsByte}
+use Rattle.uz_core.specs.CoreRange.{IsByte, IsCore}
 use Rattle.uz_core.specs.OperandRanges.{EffectFits}
 use Rattle.uz_core.proofs.EffectRanges.{effect_fits}
 use Rattle.uz_core.proofs.RowClocks.{clocks_within, stops}
@@ -38,6 +38,7 @@ use Rattle.uz_core.proofs.StateKept.{state_kept}
 use Rattle.uz_schedule.specs.Ends.{Ends}
 use Rattle.uz_schedule.specs.declared.facts.Val.{Val}
 use Rattle.uz_range.specs.Answers.{is_single}
+use Rattle.uz_schedule.specs.declared.facts.Compared.TheVariants.{Nothing}
 use Rattle.uz_schedule.specs.declared.kinds.Kind.{Kind}
 use Rattle.uz_schedule.specs.declared.kinds.Kind.TheVariants.{Main, Handler, Alone}
 use Rattle.uz_schedule.specs.declared.header.Head.{Head}
@@ -50,6 +51,8 @@ use Rattle.uz_transfer.specs.Kinds.{cell_place, is_main, is_handler}
 use Rattle.uz_rules.specs.MemoryMeets.{HeadFits, Untouched}
 use Rattle.uz_transfer.specs.Memory.{depth_of, address_range, with_pointer_range, flags_from, with_cell, stored_in}
 use Rattle.uz_transfer.specs.Transfer.{transfer, bit_of_bool}
+use Rattle.uz_transfer.specs.Compared.{compared_after, is_three, told_after}
+use Rattle.uz_transfer.specs.Narrowed.{test_of}
 use Rattle.uz_transfer.specs.Emission.{byte_event, bit_event, level_event, emission, emission_at, level_after}
 use Rattle.uz_transfer.specs.Values.{span_of, value_at, with_flag_list}
 use Rattle.uz_transfer.specs.Refusals.{fail_of}
@@ -62,17 +65,21 @@ use Rattle.uz_transfer.specs.InTime.{clock_holds}
 use Rattle.uz_rules.specs.Meets.{TimerMeets, TimerCounts, LevelMeets, Meets, InstanceFits}
 use Rattle.uz_rules.specs.OneStep.{IsNoEntry, MainTimer, OneStep, InstructionBegins, Contained, AloneContained}
 use Rattle.uz_rules.specs.OneStep.{MainContained}
+use Rattle.uz_rules.specs.Versions.{VersionTwoStays}
 use Rattle.uz_transfer.specs.Emission.{main_emits}
 use Rattle.uz_transfer.specs.declared.step.Exit.{Exit}
 use Rattle.uz_transfer.specs.declared.step.Step.{Step}
 use Rattle.uz_rules.proofs.LeavesHold.{stores_leave, facts_of}
 use Rattle.uz_rules.proofs.Timing.{loads_beside, stores_beside, later}
 use Rattle.uz_rules.proofs.TopAndTemp.{top_stays}
+use Rattle.uz_rules.proofs.ComparedFollows.{compared_holds}
+use Rattle.uz_rules.proofs.ComparedLaws.{compared_same}
 use Rattle.uz_rules.proofs.CoreSteps.{core_same}
 use Rattle.uz_rules.proofs.LoadClasses.{content_bytes}
 use Rattle.uz_rules.proofs.Classes.{Before, memory_same, unless_none, pointer_kind}
 use Rattle.uz_rules.proofs.ClassParts.{parts_of}
 use Rattle.uz_rules.proofs.ExitsHold.{exit_holds}
+use Rattle.uz_rules.proofs.AskedLaws.{TellsAway, row_tells, exit_meets, asks_none, two_asks_none}
 
 -- Edges and events
 
@@ -210,6 +217,7 @@ plan_of head length image e words clocks inst emitted = record {
   emit = emitted;
   back = returns_from_interrupt e;
   clears = clears_flag e inst;
+  test = test_of head e inst;
 }
 
 abbrev pub outcome_at : Effect → ℕ → (Outcome → ℕ) → State PadHistory → Outcome
@@ -237,10 +245,11 @@ effect_step : (head : Head) (lines : Lines) (inst : Instance) (o : Core) (d : �
     → (is_handler inst.kind ≡ true → (state_of e words clocks s).space.timer.count ≤ (state_of e words clocks s).space.timer.top)
     → AllByRecursion IsByte (state_of e words clocks s).core.registers → returns_from_interrupt e ≡ false → fail_of head e inst ≡ None
     → emission_at (sync_level s.space) e inst ≡ Some event → (1 ≤ clocks (outcome_at e words clocks s))
-    × (clocks (outcome_at e words clocks s) ≤ 4)
+    × (clocks (outcome_at e words clocks s) ≤ 4) → TellsAway e clocks → IsCore (state_of e words clocks s).core
     → OneStep head lines inst o d (plan_of head (lines.length inst.line) s.image e words clocks inst event) s (edges_of e words clocks s)
     (state_of e words clocks s)
-effect_step head lines inst o d s e words clocks event fits b m tcnt timer ticks level runs silent below bytes stays fine emits time =
+effect_step head lines inst o d s e words clocks event fits b m tcnt timer ticks level runs silent below bytes stays fine emits time tells
+    is_core =
     let following : following_of words inst ≡ following_pc words s.core = ap (λ n. (n + words) % 32768) (sym m.pc) in
     let plan : Step = plan_of head (lines.length inst.line) s.image e words clocks inst event in
     let parts = parts_of history_wiring e head s.image (following_of words inst) (sampled_of (lines.length inst.line) e clocks inst) words
@@ -255,23 +264,30 @@ effect_step head lines inst o d s e words clocks event fits b m tcnt timer ticks
       exit = exit_at e words clocks s;
       is_exit = exit_holds history_wiring e head s.image clocks words (following_of words inst) (sample_clock e clocks) d inst o s.core
           s.space fits b following stays fine (outcome_at e words clocks s) refl;
-      meets = record {
-        pc = refl;
-        enabled = parts.enabled;
-        core = core_same (transfer head s.image (following_of words inst) (sampled_of (lines.length inst.line) e clocks inst) e inst)
-            (successor lines inst (plan_of head (lines.length inst.line) s.image e words clocks inst event) (exit_at e words clocks s)) o
-            (changed_core e s.image words (loaded_bytes (space_loads history_wiring) s.core (sample_clock e clocks) s.space
-            (load_addresses e s.core)) s.core) (state_of e words clocks s).core refl refl refl refl refl parts.core_meets;
-        memory = memory_same head (transfer head s.image (following_of words inst) (sampled_of (lines.length inst.line) e clocks inst) e
-            inst) (successor lines inst (plan_of head (lines.length inst.line) s.image e words clocks inst event)
-            (exit_at e words clocks s)) o d _ (state_of e words clocks s).core.sp _ (state_of e words clocks s).space.bytes
-            (draft_kind e head s.image (following_of words inst) (sampled_of (lines.length inst.line) e clocks inst) inst) refl refl refl
-            refl parts.leads.memory;
-        timer = timer;
-        ticks = ticks;
-        level = level (sync_level (state_of e words clocks s).space) (parts.leads.shows.level ∙ ap (level_after event) before);
-        response = m.response;
-      };
+      meets = exit_meets head inst e s.image words clocks (loaded_bytes (space_loads history_wiring) s.core (sample_clock e clocks) s.space
+          (load_addresses e s.core)) s.core o d (exit_at e words clocks s) (successor lines inst plan (exit_at e words clocks s))
+          (state_of e words clocks s) fits (record { tells = tells; goes = refl; registers = refl; sreg = refl }) is_core (record {
+            pc = refl;
+            enabled = parts.enabled;
+            core = core_same (transfer head s.image (following_of words inst) (sampled_of (lines.length inst.line) e clocks inst) e inst)
+                (successor lines inst (plan_of head (lines.length inst.line) s.image e words clocks inst event) (exit_at e words clocks s)) o
+                (changed_core e s.image words (loaded_bytes (space_loads history_wiring) s.core (sample_clock e clocks) s.space
+                (load_addresses e s.core)) s.core) (state_of e words clocks s).core refl refl refl refl refl parts.core_meets;
+            compared = compared_same (compared_after head e inst) (changed_core e s.image words (loaded_bytes (space_loads history_wiring) s.core
+                (sample_clock e clocks) s.space (load_addresses e s.core)) s.core) (state_of e words clocks s).core refl refl
+                (compared_holds e (sync_level s.space) head s.image words (loaded_bytes (space_loads history_wiring) s.core (sample_clock e clocks)
+                s.space (load_addresses e s.core)) inst o s.core event fits b.fits b.is_core b.meets fine emits m.compared);
+            memory = memory_same head (transfer head s.image (following_of words inst) (sampled_of (lines.length inst.line) e clocks inst) e
+                inst) (successor lines inst (plan_of head (lines.length inst.line) s.image e words clocks inst event)
+                (exit_at e words clocks s)) o d _ (state_of e words clocks s).core.sp _ (state_of e words clocks s).space.bytes
+                (draft_kind e head s.image (following_of words inst) (sampled_of (lines.length inst.line) e clocks inst) inst) refl refl refl
+                refl parts.leads.memory;
+            timer = timer;
+            ticks = ticks;
+            level = level (sync_level (state_of e words clocks s).space) (parts.leads.shows.level ∙ ap (level_after event) before);
+            response = m.response;
+          });
+      asks = asks_none head e inst;
       events = ap (λ ks. shown (edges_at (s.clock + clocks (outcome_at e words clocks s)) ks)) same
           ∙ edges_shown (s.clock + clocks (outcome_at e words clocks s)) (kinds_of e words clocks s)
           ∙ ap (λ ks. map (λ k. record { clock = s.clock + clocks (outcome_at e words clocks s); kind = k }) ks) parts.leads.shows.events
@@ -407,7 +423,7 @@ any_contained head lines image inst o d step s enters h part =
         (clocks_of r.row) inst r.event) s (instruction_edges history_wiring r.row s) (after_instruction history_wiring r.row s) =
         let k = part r.row r.event r.reads r.fine r.emits stays r.time time.1 in
         effect_step head lines inst o d s (effect_of r.row) (words_of r.row) (clocks_of r.row) r.event (effect_fits r.row) b h.meets k.tcnt
-        k.timer k.ticks k.level k.runs k.silent k.below after.core.registers stays r.fine k.emits time in
+        k.timer k.ticks k.level k.runs k.silent k.below after.core.registers stays r.fine k.emits time (row_tells r.row) after.core in
         let flash : s.image ≡ image = h.flash in
         let plan : plan_of head (lines.length inst.line) s.image (effect_of r.row) (words_of r.row) (clocks_of r.row) inst r.event ≡ step =
         ap (λ (m : FinMap nat_cmp ℕ). plan_of head (lines.length inst.line) m (effect_of r.row) (words_of r.row) (clocks_of r.row) inst
@@ -599,3 +615,12 @@ main_contained head lines image inst o d step s kind enters silent h =
     any_contained head lines image inst o d step s enters h (λ i event reads fine emits back in_time few.
     main_part head lines inst o d s (effect_of i) (words_of i) (clocks_of i) event kind (effect_fits i)
     (alone_before head inst o d s h.head_fits h.depth h.fits h.is_state h.meets) h.meets fine emits back (silent i reads))
+
+-- By the rules of version 2
+pub version_two_stays : VersionTwoStays
+version_two_stays head lines image inst step two s =
+    let r = reads_as head lines image inst step s.row s.reads s.is in (
+      ap (λ (x : Step). x.draft.compared) r.is
+          ∙ ap (λ v. if is_three v && is_main inst.kind then told_after (effect_of r.row) inst else Nothing) two,
+      ap (λ (x : Step). x.test) r.is ∙ two_asks_none head (effect_of r.row) inst two,
+    )

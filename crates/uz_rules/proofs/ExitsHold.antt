@@ -78,11 +78,11 @@ exit_of e clocks following inst (x ∷ os) o pc (suc k) h i c =
 
 -- Choices
 
-abbrev equals : Bool → Bool → Bool
+abbrev pub equals : Bool → Bool → Bool
 equals t true = t
 equals t false = not t
 
-is_equals : (n k : ℕ) (set : Bool) → bit_equals n k set ≡ equals (bit_is_set n k) set
+pub is_equals : (n k : ℕ) (set : Bool) → bit_equals n k set ≡ equals (bit_is_set n k) set
 is_equals n k true = refl
 is_equals n k false = refl
 

@@ -1,7 +1,7 @@
 -- A state that meets an instance meets each in which it lies.
 use Rattle.std.proofs.Common.{◌%◌, sym, not, ◌≡◌, ◌⊎◌, inl, inr, ℕ, zero, suc, ◌+◌, ◌-◌, ◌<◌, ◌≤◌, Bool, true, false, nat_eq, nat_le, Some}
 use Rattle.std.proofs.Common.{List, [], ◌∷◌, length, refl, ◌∙◌, ap, subst, arith}
-use Rattle.std.specs.Prelude.{◌&&◌}
+use Rattle.std.specs.Prelude.{◌&&◌, ◌||◌}
 use Rattle.std.specs.List.{AllByRecursion}
 use Rattle.std.proofs.lemmas.Bool.{eq-eqb}
 use Rattle.std.proofs.lemmas.Bool.Decides.{eqb_tells, nat_tests}
@@ -9,6 +9,13 @@ use Rattle.uz_core.specs.Core.{Core, register}
 use Rattle.uz_core.specs.CoreRange.{IsByte, IsCore}
 use Rattle.uz_core.proofs.ByteLists.{byte_at}
 use Rattle.uz_schedule.specs.Ends.{Ends}
+use Rattle.uz_schedule.specs.Exact.{exact_compared}
+use Rattle.uz_schedule.specs.contracts.facts.AgainstPartialEq as operands
+use Rattle.uz_schedule.specs.contracts.facts.ComparedPartialEq as comparisons
+use Rattle.uz_schedule.specs.declared.facts.Against.{Against}
+use Rattle.uz_schedule.specs.declared.facts.Against.TheVariants.{Register, Constant}
+use Rattle.uz_schedule.specs.declared.facts.Compared.{Compared}
+use Rattle.uz_schedule.specs.declared.facts.Compared.TheVariants.{Nothing, Byte, Pair, Result, PairResult, Value}
 use Rattle.uz_schedule.specs.declared.kinds.Kind.{Kind}
 use Rattle.uz_schedule.specs.declared.kinds.Kind.TheVariants.{Main, Handler, Alone}
 use Rattle.uz_schedule.specs.declared.facts.Bit.{Bit}
@@ -20,13 +27,14 @@ use Rattle.uz_schedule.specs.declared.states.Instance.{Instance}
 use Rattle.uz_range.specs.Answers.{ends}
 use Rattle.uz_range.specs.Containment.{IsWithin}
 use Rattle.uz_transfer.specs.Values.{value_at, flag_at, pair_at, span_at}
+use Rattle.uz_rules.specs.ComparedHolds.{ComparedHolds}
 use Rattle.uz_rules.specs.CoreMeets.{ValueHolds, FlagHolds, CoreMeets}
 use Rattle.uz_transfer.specs.Kinds.{cell_place}
 use Rattle.uz_rules.specs.MemoryMeets.{MemoryMeets}
 use Rattle.uz_transfer.specs.Refusals.{range_inside}
 use Rattle.uz_rules.specs.Inside.{value_inside, flag_inside, all_below, same_kind, same_bool, same_place, registers_inside, pairs_inside}
 use Rattle.uz_rules.specs.Inside.{flags_inside, slots_inside, cells_inside, contents_inside, SamePlace, PlaceTells}
-use Rattle.uz_rules.specs.Inside.{PlaceHolds, KnownInItself}
+use Rattle.uz_rules.specs.Inside.{PlaceHolds, KnownInItself, compared_inside, tells_nothing}
 use Rattle.uz_rules.specs.Inside.{InsideKeeps, StateInside, is_old_register, RestoredGives}
 use Rattle.uz_rules.specs.Meets.{TimerMeets, TimerCounts}
 use Rattle.uz_transfer.specs.Memory.{is_old}
@@ -159,6 +167,7 @@ pub record ContentsInside (a b : Instance) : Type 0 where
   pub slots : slots_inside a.stack.items b.stack.items ≡ true
   pub cells : cells_inside a.cells.items b.cells.items ≡ true
   pub flags : flags_inside a.flags b.flags ≡ true
+  pub compared : compared_inside a.compared b.compared ≡ true
   pub pairs : pairs_inside a.pairs b.pairs ≡ true
   pub registers : registers_inside a.regs b.regs ≡ true
 
@@ -167,8 +176,9 @@ contents_tell a b e =
     let two = and_true (slots_inside a.stack.items b.stack.items) _ e in
     let three = and_true (cells_inside a.cells.items b.cells.items) _ two.1 in
     let four = and_true (flags_inside a.flags b.flags) _ three.1 in
-    let five = and_true (pairs_inside a.pairs b.pairs) _ four.1 in
-    record { slots = two.0; cells = three.0; flags = four.0; pairs = five.0; registers = five.1 }
+    let five = and_true (compared_inside a.compared b.compared) _ four.1 in
+    let six = and_true (pairs_inside a.pairs b.pairs) _ five.1 in
+    record { slots = two.0; cells = three.0; flags = four.0; compared = five.0; pairs = six.0; registers = six.1 }
 
 below_all : (n : ℕ) (test : ℕ → Bool) → ((k : ℕ) → test k ≡ true) → all_below n test ≡ true
 unfolding all_below
@@ -189,8 +199,40 @@ flag_itself One = refl
 flag_itself Free = refl
 flag_itself OldBit = refl
 
+-- The last comparison
+
+against_itself : (x : Against) → (operands.TheImpl.eq-value).it x x ≡ true
+against_itself (Register r) = eq-eqb r r refl
+against_itself (Constant k) = eq-eqb k k refl
+
+ends_itself : (e : Ends) → (nat_eq e.lo e.lo && nat_eq e.hi e.hi) ≡ true
+ends_itself e = λ i. eq-eqb e.lo e.lo refl i && eq-eqb e.hi e.hi refl i
+
+compared_equal : (c : Compared) → (comparisons.TheImpl.eq-value).it c c ≡ true
+compared_equal Nothing = refl
+compared_equal (Byte d source) = λ i. eq-eqb d d refl i && against_itself source i
+compared_equal (Pair d low high) = λ i. eq-eqb d d refl i && (against_itself low i && eq-eqb high high refl i)
+compared_equal (Result d k old) = λ i. eq-eqb d d refl i && (eq-eqb k k refl i && ends_itself old i)
+compared_equal (PairResult d k old) = λ i. eq-eqb d d refl i && (eq-eqb k k refl i && ends_itself old i)
+compared_equal (Value d) = eq-eqb d d refl
+
+or_second : (a b : Bool) → b ≡ true → (a || b) ≡ true
+or_second true b e = refl
+or_second false b e = e
+
+compared_itself : (c : Compared) → compared_inside c c ≡ true
+compared_itself c = or_second (tells_nothing c) _ (compared_equal c)
+
+pub compared_widens : (a b : Compared) (core : Core) → compared_inside a b ≡ true → ComparedHolds a core → ComparedHolds b core
+compared_widens a Nothing core e h = tt
+compared_widens a (Byte d source) core e h = subst (λ c. ComparedHolds c core) (exact_compared a (Byte d source) e) h
+compared_widens a (Pair d low high) core e h = subst (λ c. ComparedHolds c core) (exact_compared a (Pair d low high) e) h
+compared_widens a (Result d k old) core e h = subst (λ c. ComparedHolds c core) (exact_compared a (Result d k old) e) h
+compared_widens a (PairResult d k old) core e h = subst (λ c. ComparedHolds c core) (exact_compared a (PairResult d k old) e) h
+compared_widens a (Value d) core e h = subst (λ c. ComparedHolds c core) (exact_compared a (Value d) e) h
+
 pub known_in_itself : KnownInItself
-known_in_itself a = λ i. range_itself a.temp i && (slots i && (cells i && (flags i && (pairs i && registers i))))
+known_in_itself a = λ i. range_itself a.temp i && (slots i && (cells i && (flags i && (compared_itself a.compared i && (pairs i && registers i)))))
   where
     slots : slots_inside a.stack.items a.stack.items ≡ true
     slots = λ i. eq-eqb (length a.stack.items) (length a.stack.items) refl i && below_all (length a.stack.items)
@@ -265,6 +307,7 @@ state_inside head a b o d s state e level m =
       pc = m.pc ∙ place.pc;
       enabled = m.enabled ∙ ap is_main place.kind;
       core = core_widens a b o s.core state.core known.1 m.core;
+      compared = compared_widens a.compared b.compared s.core (contents_tell a b known.1).compared m.compared;
       memory = memory_widens head a b o d s.core.sp s.space.bytes state.space.bytes place.kind known.1 m.memory;
       timer = timer_widens place known.0 a.kind b.kind place.kind m.timer;
       ticks = subst (λ k. TimerCounts k s.space.timer) place.kind m.ticks;

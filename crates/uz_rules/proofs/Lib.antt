@@ -1,4 +1,7 @@
 pub mod CoreKeeps
+pub mod ComparedLaws
+pub mod PairResults
+pub mod NarrowingLaws
 pub mod MemoryKeeps
 pub mod SpaceStores
 pub mod StoreShows
@@ -9,6 +12,8 @@ pub mod StoreClasses
 pub mod Classes
 pub mod ClassParts
 pub mod ExitsHold
+pub mod ComparedFollows
+pub mod AskedLaws
 pub mod Containment
 pub mod HandlerStep
 pub mod InsideMeets
@@ -24,5 +29,6 @@ pub mod FactPlaces
 pub mod AtCounts
 pub mod CountKeys
 pub mod PeriodLaws
+pub mod CoverLaws
 pub mod VisitLaws
 pub mod MovingLaws

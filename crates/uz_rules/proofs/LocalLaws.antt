@@ -31,8 +31,8 @@ local_is_unique image cert id l c a b h g =
     let same : h.point ≡ g.point = point_same h.point g.point (sym h.is_point ∙ g.is_point) in
     let reads : IsReadAt image g.point.pc h.row = subst (λ (p : Point). IsReadAt image p.pc h.row) same h.reads in
     let row : h.row ≡ g.row = decoded_same _ _ h.row g.row reads g.reads in
-    h.is ∙ (ap (λ (p : Point). local_fail image cert p.next.items h.row (instance_at cert id l c)) same
-    ∙ (ap (λ r. local_fail image cert g.point.next.items r (instance_at cert id l c)) row ∙ sym g.is))
+    h.is ∙ (ap (λ (p : Point). local_fail image cert p.next.items p.split h.row (instance_at cert id l c)) same
+    ∙ (ap (λ r. local_fail image cert g.point.next.items g.point.split r (instance_at cert id l c)) row ∙ sym g.is))
 
 -- Named successors
 
@@ -67,5 +67,5 @@ lies_in_point_tells cert id inst e = by_case (slice_get cert.points id) e
 
 pub is_local : (image : FinMap nat_cmp ℕ) (cert : Cert) (id l c : ℕ) (p : Point) (row : Option Instr) (why : Option Fail)
     → slice_get cert.points id ≡ Some p
-    → IsReadAt image p.pc row → why ≡ local_fail image cert p.next.items row (instance_at cert id l c) → IsLocal image cert id l c why
+    → IsReadAt image p.pc row → why ≡ local_fail image cert p.next.items p.split row (instance_at cert id l c) → IsLocal image cert id l c why
 is_local image cert id l c p row why is reads e = record { point = p; is_point = is; row = row; reads = reads; is = e }

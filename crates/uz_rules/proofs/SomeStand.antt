@@ -60,6 +60,7 @@ some_stand lines image flash first second = (
             (record { above = omega arith; below = omega arith });
         flags = λ k h. rw (seven_at (λ k. Free) Free k h) tt;
       };
+      compared = tt;
       memory = record {
         slots = λ i h. absurd (omega arith);
         cells = λ at j h. absurd cc;

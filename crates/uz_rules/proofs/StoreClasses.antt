@@ -250,7 +250,7 @@ space_stored {P} w head inst o d at v e core s emitted place fits size c h enabl
       });
     }
 
-not_core : (at : ℕ) → 0x20 ≤ at → SetsNothingElse at → nat_eq at 0x5F ≡ false → is_core_address at ≡ false
+pub not_core : (at : ℕ) → 0x20 ≤ at → SetsNothingElse at → nat_eq at 0x5F ≡ false → is_core_address at ≡ false
 not_core at low io sreg =
     elim (eqb_tells at 0x5D) [
       | inl t ↦ let z : is_setup_register 0x5D ≡ false = subst SetsNothingElse t.1 io refl refl in absurd cc

@@ -151,7 +151,7 @@ visit_reads image cert id p visit v found =
 
 pub tells : (image : FinMap nat_cmp ℕ) (cert : Cert) (id l c : ℕ) (p : Point) (visit : Visit) (why : Option Fail)
     → IsVisit image cert id visit → slice_get cert.points id ≡ Some p
-    → why ≡ local_fail image cert p.next.items visit.row (instance_at cert id l c) → IsLocal image cert id l c why
+    → why ≡ local_fail image cert p.next.items p.split visit.row (instance_at cert id l c) → IsLocal image cert id l c why
 tells image cert id l c p visit why v found e =
     is_local image cert id l c p visit.row why found (visit_reads image cert id p visit v found) e
 

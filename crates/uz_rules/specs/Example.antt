@@ -4,6 +4,7 @@ use Rattle.std.specs.Ordering.{nat_cmp}
 use Rattle.std.specs.Prelude.{[], ℕ, ◌≡◌}
 use Rattle.uz_schedule.specs.declared.header.Head.{Head}
 use Rattle.uz_schedule.specs.declared.kinds.Response.TheVariants.{Four}
+use Rattle.uz_schedule.specs.declared.kinds.RuleVersion.TheVariants.{Two}
 use Rattle.uz_hex.specs.Cells.{IsFlash, word_of}
 use Rattle.uz_core.specs.Core.{reset_core}
 use Rattle.uz_core.specs.Turn.{history_at_reset, state_at_reset}
@@ -13,7 +14,7 @@ use Rattle.uz_schedule.specs.Lines.{Lines}
 use Rattle.uz_rules.specs.OneStep.{InstructionBegins}
 
 abbrev pub example_head : Head
-example_head = record { irq = Four; lo = 256; hi = 4351; main = 0; handler = 0; cells = record { items = [] } }
+example_head = record { irq = Four; lo = 256; hi = 4351; main = 0; handler = 0; cells = record { items = [] }; version = Two }
 
 -- whatever the lines
 abbrev pub SomeInstructionBegins : Type 0

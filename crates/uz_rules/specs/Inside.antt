@@ -1,9 +1,12 @@
 -- When one instance lies in another, and when a handler has restored what it interrupted.
 use Rattle.std.proofs.Common.{refl}
 use Rattle.std.specs.List.{AllByRecursion}
-use Rattle.std.specs.Prelude.{Bool, List, false, length, nat_eq, not, suc, true, zero, ℕ, ◌&&◌, ◌≡◌, ◌%◌}
+use Rattle.std.specs.Prelude.{Bool, List, false, length, nat_eq, not, suc, true, zero, ℕ, ◌&&◌, ◌||◌, ◌≡◌, ◌%◌}
 use Rattle.uz_schedule.specs.declared.facts.Bit.{Bit}
 use Rattle.uz_schedule.specs.declared.facts.Bit.TheVariants.{Free, Old as OldBit, One, Zero}
+use Rattle.uz_schedule.specs.contracts.facts.ComparedPartialEq as comparisons
+use Rattle.uz_schedule.specs.declared.facts.Compared.{Compared}
+use Rattle.uz_schedule.specs.declared.facts.Compared.TheVariants.{Nothing}
 use Rattle.uz_schedule.specs.declared.facts.Val.{Val}
 use Rattle.uz_schedule.specs.declared.facts.Val.TheVariants.{Old, OldFlags, Range}
 use Rattle.uz_schedule.specs.declared.header.Head.{Head}
@@ -64,6 +67,10 @@ abbrev pub same_place : Instance → Instance → Bool
 same_place a b =
     same_kind a.kind b.kind && (nat_eq a.pc b.pc && (nat_eq a.line b.line && (nat_eq a.clock b.clock && same_timer a b)))
 
+abbrev pub tells_nothing : Compared → Bool
+tells_nothing Nothing = true
+tells_nothing c = false
+
 abbrev pub registers_inside : List Val → List Val → Bool
 registers_inside a b = all_below 32 (λ r. value_inside (value_at a r) (value_at b r))
 
@@ -79,12 +86,17 @@ slots_inside a b = nat_eq (length a) (length b) && all_below (length a) (λ i. v
 abbrev pub cells_inside : List Ends → List Ends → Bool
 cells_inside a b = nat_eq (length a) (length b) && all_below (length a) (λ j. range_inside (span_at a j) (span_at b j))
 
--- what is known in a of the stack's bytes, the cells, flags, pairs and registers lies in what is known of them in b
+-- nothing is known in b of the last comparison, or the same as in a
+abbrev pub compared_inside : Compared → Compared → Bool
+compared_inside a b = tells_nothing b || (comparisons.TheImpl.eq-value).it a b
+
+-- what is known in a of the stack's bytes, the cells, flags, the last comparison, pairs and registers lies in what is known of them in b
 abbrev pub contents_inside : Instance → Instance → Bool
 contents_inside a b =
     slots_inside a.stack.items b.stack.items
     && (cells_inside a.cells.items b.cells.items
-    && (flags_inside a.flags b.flags && (pairs_inside a.pairs b.pairs && registers_inside a.regs b.regs)))
+    && (flags_inside a.flags b.flags
+    && (compared_inside a.compared b.compared && (pairs_inside a.pairs b.pairs && registers_inside a.regs b.regs))))
 
 -- and so does what is known of TEMP
 abbrev pub known_inside : Instance → Instance → Bool

@@ -1,4 +1,5 @@
 pub mod CoreMeets
+pub mod ComparedHolds
 pub mod MemoryMeets
 pub mod Meets
 pub mod OneStep
@@ -9,8 +10,12 @@ pub mod Successors
 pub mod FactInclusion
 pub mod Periods
 pub mod Visit
+pub mod Cover
 pub mod Local
 pub mod Limits
 pub mod After
 pub mod Events
 pub mod Moving
+pub mod Versions
+pub mod NarrowingMeets
+pub mod CoverMeets

@@ -18,10 +18,12 @@ use Rattle.uz_transfer.specs.declared.fail.Fail.TheVariants.{Opcode, Box, Edge, 
 use Rattle.uz_transfer.specs.declared.step.Exit.{Exit}
 use Rattle.uz_transfer.specs.declared.step.Step.{Step}
 use Rattle.uz_transfer.specs.Kinds.{is_main}
+use Rattle.uz_transfer.specs.Narrowed.{narrowed}
 use Rattle.uz_transfer.specs.Refusals.{refuse_if}
 use Rattle.uz_transfer.specs.Step.{IsReadAt, step_of_row, successor}
 use Rattle.uz_rules.specs.Inside.{cells_inside, restored}
 use Rattle.uz_rules.specs.EdgeRule.{position_of, each_exit, edges_fit}
+use Rattle.uz_rules.specs.Cover.{covered_by}
 use Rattle.uz_rules.specs.Successors.{lies_in_any}
 use Rattle.uz_transfer.specs.Emission.{main_emits}
 
@@ -65,15 +67,21 @@ end_of cert inst step = successor (order_of cert.schedule) inst step (first_exit
 
 -- Results
 
--- each result lies in an instance of a named successor
-abbrev pub has_successors : Cert → List ℕ → Instance → Step → Bool
-has_successors cert next inst step = each_exit (λ exit. lies_in_any cert next (successor (order_of cert.schedule) inst step exit))
+-- no state goes there, or the result lies in an instance of a named successor, or is covered by the values of the point's register
+abbrev pub passes : Cert → List ℕ → Option ℕ → Option Instance → Bool
+passes cert next split None = true
+passes cert next split (Some result) = lies_in_any cert next result || covered_by cert next split result
+
+-- each result passes, narrowed by what its exit tells
+abbrev pub has_successors : Cert → List ℕ → Option ℕ → Instance → Step → Bool
+has_successors cert next split inst step =
+    each_exit (λ exit. passes cert next split (narrowed step.test exit (successor (order_of cert.schedule) inst step exit)))
     step.exits.items
 
-abbrev pub result_fail : Cert → List ℕ → Instance → Step → Option Fail
-result_fail cert next inst step =
+abbrev pub result_fail : Cert → List ℕ → Option ℕ → Instance → Step → Option Fail
+result_fail cert next split inst step =
     if step.back then return_fail (rest_in cert.rests (end_of cert inst step).line) (end_of cert inst step)
-    else refuse_if (not (has_successors cert next inst step)) Successor None
+    else refuse_if (not (has_successors cert next split inst step)) Successor None
 
 -- what main emits isn't compared with the schedule
 abbrev pub compares_edges : Cert → Instance → Step → Bool
@@ -82,18 +90,18 @@ compares_edges cert inst step =
 
 -- The rule
 
-abbrev pub step_fail : Cert → List ℕ → Instance → Bool → Result Step Fail → Option Fail
-step_fail cert next inst emits (Err why) = Some why
-step_fail cert next inst emits (Ok step) =
-    refuse_if emits Edge (refuse_if (not (compares_edges cert inst step)) Edge (result_fail cert next inst step))
+abbrev pub step_fail : Cert → List ℕ → Option ℕ → Instance → Bool → Result Step Fail → Option Fail
+step_fail cert next split inst emits (Err why) = Some why
+step_fail cert next split inst emits (Ok step) =
+    refuse_if emits Edge (refuse_if (not (compares_edges cert inst step)) Edge (result_fail cert next split inst step))
 
-abbrev pub instance_fail : FinMap nat_cmp ℕ → Cert → List ℕ → Option Instr → Option Instance → Option Fail
-instance_fail image cert next row None = Some Box
-instance_fail image cert next row (Some inst) =
-    step_fail cert next inst (row_emits_in_main row inst) (step_of_row cert.head (order_of cert.schedule) image row inst)
+abbrev pub instance_fail : FinMap nat_cmp ℕ → Cert → List ℕ → Option ℕ → Option Instr → Option Instance → Option Fail
+instance_fail image cert next split row None = Some Box
+instance_fail image cert next split row (Some inst) =
+    step_fail cert next split inst (row_emits_in_main row inst) (step_of_row cert.head (order_of cert.schedule) image row inst)
 
-abbrev pub local_fail : FinMap nat_cmp ℕ → Cert → List ℕ → Option Instr → Option Instance → Option Fail
-local_fail image cert next row inst = refuse_if (is_no_opcode row) Opcode (instance_fail image cert next row inst)
+abbrev pub local_fail : FinMap nat_cmp ℕ → Cert → List ℕ → Option ℕ → Option Instr → Option Instance → Option Fail
+local_fail image cert next split row inst = refuse_if (is_no_opcode row) Opcode (instance_fail image cert next split row inst)
 
 -- why point id is refused at line l and count c: None where it isn't
 pub record IsLocal (image : FinMap nat_cmp ℕ) (cert : Cert) (id l c : ℕ) (why : Option Fail) : Type 0 where
@@ -101,7 +109,7 @@ pub record IsLocal (image : FinMap nat_cmp ℕ) (cert : Cert) (id l c : ℕ) (wh
   pub is_point : slice_get cert.points id ≡ Some point
   pub row : Option Instr
   pub reads : IsReadAt image point.pc row
-  pub is : why ≡ local_fail image cert point.next.items row (instance_at cert id l c)
+  pub is : why ≡ local_fail image cert point.next.items point.split row (instance_at cert id l c)
 
 -- there is one answer
 abbrev pub OneLocal : Type 0

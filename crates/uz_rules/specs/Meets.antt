@@ -13,6 +13,7 @@ use Rattle.uz_core.specs.Turn.{State, sync_level}
 use Rattle.uz_range.specs.Containment.{IsWithin}
 use Rattle.uz_transfer.specs.Kinds.{depth_limit, is_main}
 use Rattle.uz_transfer.specs.Memory.{all_flags, is_old, depth_of}
+use Rattle.uz_rules.specs.ComparedHolds.{ComparedHolds}
 use Rattle.uz_rules.specs.CoreMeets.{CoreMeets}
 use Rattle.uz_rules.specs.MemoryMeets.{MemoryMeets}
 
@@ -38,6 +39,7 @@ pub record Meets (head : Head) (inst : Instance) (o : Core) (d : ℕ) (s : State
   pub pc : s.core.pc ≡ inst.pc
   pub enabled : bit_is_set s.core.sreg 7 ≡ is_main inst.kind
   pub core : CoreMeets inst o s.core
+  pub compared : ComparedHolds inst.compared s.core
   pub memory : MemoryMeets head inst o d s.core.sp s.space.bytes
   pub timer : TimerMeets inst.kind inst s.space.timer
   pub ticks : TimerCounts inst.kind s.space.timer

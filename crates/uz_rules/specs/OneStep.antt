@@ -4,7 +4,7 @@ use Rattle.avr_table.specs.declared.Instr.{Instr}
 use Rattle.std.specs.FinMap.{FinMap}
 use Rattle.std.specs.List.{AllByRecursion}
 use Rattle.std.specs.Ordering.{nat_cmp}
-use Rattle.std.specs.Prelude.{true, None, Contains, List, Ok, false, ℕ, ⊤, ◌%◌, ◌+◌, ◌<◌, ◌||◌, ◌≡◌, ◌≤◌}
+use Rattle.std.specs.Prelude.{true, None, Some, Contains, List, Ok, Option, false, ℕ, ⊤, ◌%◌, ◌+◌, ◌<◌, ◌||◌, ◌≡◌, ◌≤◌}
 use Rattle.uz_schedule.specs.declared.header.Head.{Head}
 use Rattle.uz_schedule.specs.declared.kinds.Kind.{Kind}
 use Rattle.uz_schedule.specs.declared.kinds.Kind.TheVariants.{Alone, Handler, Main}
@@ -20,9 +20,11 @@ use Rattle.uz_core.specs.Turn.{State, Turn, is_entry, sync_level}
 use Rattle.uz_core.specs.declared.machine.Edge.{Edge}
 use Rattle.uz_transfer.specs.declared.step.Exit.{Exit}
 use Rattle.uz_transfer.specs.declared.step.Step.{Step}
+use Rattle.uz_transfer.specs.declared.step.Test.TheVariants as test
 use Rattle.uz_transfer.specs.Memory.{depth_of}
 use Rattle.uz_transfer.specs.Emission.{main_emits}
 use Rattle.uz_transfer.specs.Kinds.{is_main, is_handler}
+use Rattle.uz_transfer.specs.Narrowed.{narrowed}
 use Rattle.uz_schedule.specs.Lines.{Lines}
 use Rattle.uz_transfer.specs.Step.{successor, IsStep}
 use Rattle.uz_rules.specs.MemoryMeets.{Untouched, HeadFits}
@@ -48,12 +50,19 @@ IsNoEntry (Sound value) = ⊤
 IsNoEntry (Enter count) = ⊥
 IsNoEntry Leave = ⊤
 
--- The state after an instruction meets the instance at one of the step's exits. In a handler TCNT1 isn't above OCR1A
+-- a state meets what is left of an instance; none goes where nothing is left
+abbrev pub MeetsLeft : Head → Option Instance → Core → ℕ → State PadHistory → Type 0
+MeetsLeft head None o d s = ⊥
+MeetsLeft head (Some inst) o d s = Meets head inst o d s
+
+-- The state after an instruction meets the instance at one of the step's exits, narrowed by what that exit tells of main. In a handler
+-- TCNT1 isn't above OCR1A
 pub record OneStep (head : Head) (lines : Lines) (inst : Instance) (o : Core) (d : ℕ) (step : Step) (old : State PadHistory)
     (edges : List Edge) (new : State PadHistory) : Type 0 where
   pub exit : Exit
   pub is_exit : Contains step.exits.items exit
-  pub meets : Meets head (successor lines inst step exit) o d new
+  pub meets : MeetsLeft head (narrowed step.test exit (successor lines inst step exit)) o d new
+  pub asks : is_main inst.kind ≡ false → step.test ≡ test.Nothing
   pub events : shown edges ≡ listed (shown_at step.emit (old.clock + exit.clocks))
   pub no_entry : AllByRecursion (λ e. IsNoEntry e.kind) edges
   pub clock : new.clock ≡ old.clock + exit.clocks

@@ -10,7 +10,7 @@ ghost use Rattle.uz_rules.specs.Inside.{value_inside, all_below, registers_insid
 ghost use Rattle.uz_rules.specs.FactInclusion.{facts_inside};
 
 use crate::facts::cell_by;
-use crate::inclusion::{flags_inside, span_inside, value_inside};
+use crate::inclusion::{compared_inside, flags_inside, span_inside, value_inside};
 use crate::pair_inclusion::pairs_in_facts;
 use uz_schedule::{Fact, Instance, Point, Span, Val, val_of};
 
@@ -102,6 +102,7 @@ pub(crate) fn facts_inside(at: &Instance, point: &Point, count: u8) -> bool
     slots_in_facts(at.stack.as_slice(), point.stack.as_slice(), at.line, count)
         && (cells_in_facts(at.cells.as_slice(), point.cells.as_slice(), at.line, count)
             && (flags_inside(&at.flags, &point.flags)
-                && (pairs_in_facts(at, point, count)
-                    && registers_in_facts(&at.regs, &point.regs, at.line, count))))
+                && (compared_inside(&at.compared, &point.compared)
+                    && (pairs_in_facts(at, point, count)
+                        && registers_in_facts(&at.regs, &point.regs, at.line, count)))))
 }

@@ -7,9 +7,10 @@ ghost use Rattle.uz_transfer.specs.Refusals.{range_inside};
 ghost use Rattle.uz_rules.specs.Inside.{value_inside, flag_inside, all_below, same_kind, same_timer, same_place};
 ghost use Rattle.uz_rules.specs.Inside.{registers_inside, pairs_inside, flags_inside, slots_inside, cells_inside};
 ghost use Rattle.uz_rules.specs.Inside.{contents_inside, known_inside, inside, is_old_register, restored};
+ghost use Rattle.uz_rules.specs.Inside.{compared_inside, tells_nothing};
 ghost use Rattle.uz_rules.specs.FactInclusion.{timer_inside};
 
-use uz_schedule::{Bit, Instance, Kind, Point, Span, Val, Wide};
+use uz_schedule::{Bit, Compared, Instance, Kind, Point, Span, Val, Wide};
 
 /// Whether a range of bytes lies in another.
 pub(crate) fn span_inside(a: &Span, b: &Span) -> bool
@@ -172,15 +173,31 @@ pub(crate) fn cells_inside(a: &[Span], b: &[Span]) -> bool
     a.len() == b.len() && spans_inside(a, b)
 }
 
-/// Whether what is known in instance `a` of stack, cells, flags, pairs and registers lies in what is known of them in `b`: the stacks
-/// are as deep, each range of `a` lies in that of `b`, and what `b` has of interrupted values is the same in `a`.
+/// Whether nothing is known of the last comparison.
+fn tells_nothing(c: &Compared) -> bool
+    ensures { result ≡ tells_nothing c.now }
+{
+    matches!(c, Compared::Nothing)
+}
+
+/// Whether nothing is known in `b` of the last comparison, or the same as in `a`.
+pub(crate) fn compared_inside(a: &Compared, b: &Compared) -> bool
+    ensures { result ≡ compared_inside a.now b.now }
+{
+    tells_nothing(b) || a == b
+}
+
+/// Whether what is known in instance `a` of stack, cells, flags, the last comparison, pairs and registers lies in what is known of
+/// them in `b`: the stacks are as deep, each range of `a` lies in that of `b`, and what `b` has of interrupted values and of the last
+/// comparison is the same in `a`.
 fn contents_inside(a: &Instance, b: &Instance) -> bool
     ensures { result ≡ contents_inside a.now b.now }
 {
     slots_inside(a.stack.as_slice(), b.stack.as_slice())
         && (cells_inside(a.cells.as_slice(), b.cells.as_slice())
             && (flags_inside(&a.flags, &b.flags)
-                && (pairs_inside(&a.pairs, &b.pairs) && registers_inside(&a.regs, &b.regs))))
+                && (compared_inside(&a.compared, &b.compared)
+                    && (pairs_inside(&a.pairs, &b.pairs) && registers_inside(&a.regs, &b.regs)))))
 }
 
 /// Whether what is known in instance `a` lies in what is known in `b`: its contents, and the range of TEMP.

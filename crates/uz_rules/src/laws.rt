@@ -6,6 +6,9 @@ ghost use Rattle.uz_rules.specs.Limits.{LimitsGive};
 ghost use Rattle.uz_rules.specs.Local.{OneLocal};
 ghost use Rattle.uz_rules.specs.Successors.{LiesInPoint};
 ghost use Rattle.uz_rules.specs.OneStep.{AloneContained, HandlerContained, MainContained};
+ghost use Rattle.uz_rules.specs.NarrowingMeets.{NarrowingMeets};
+ghost use Rattle.uz_rules.specs.CoverMeets.{CoverMeets};
+ghost use Rattle.uz_rules.specs.Versions.{VersionTwoStays};
 
 /// The law that the machine's step from a state that meets an instance which is alone lies in the abstract step. Does nothing.
 pub fn alone_contained()
@@ -20,6 +23,22 @@ pub fn handler_contained()
 /// The same of an instance of main, where no interrupt is taken now. Does nothing.
 pub fn main_contained()
     ensures { MainContained }
+{}
+
+/// The law that a core which meets an instance, and has a flag set or clear, meets what is left of it. Does nothing.
+pub fn narrowing_meets()
+    ensures { NarrowingMeets }
+{}
+
+/// The law that a state which meets a result that passes meets one that lies in an instance of a named successor: with its own value of
+/// the register of a cover. Does nothing.
+pub fn cover_meets()
+    ensures { CoverMeets }
+{}
+
+/// The law that by the rules of version 2 no step tells of a comparison. Does nothing.
+pub fn version_two_stays()
+    ensures { VersionTwoStays }
 {}
 
 /// The law that containment isn't about nothing: of a flash that begins with NOP the state at reset meets an instance, whatever the

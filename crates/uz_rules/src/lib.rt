@@ -2,6 +2,7 @@
 #![tactic(auto)]
 
 mod count_keys;
+mod cover;
 mod edge_rule;
 mod events;
 mod fact_inclusion;
@@ -23,9 +24,9 @@ pub use events::event_of;
 pub use growing::Growing;
 pub use inclusion::{inside, restored};
 pub use laws::{
-    alone_contained, handler_contained, inside_keeps, known_in_itself, lies_in_point_tells,
-    limits_give, local_is_unique, main_contained, place_holds, place_tells, restored_gives,
-    some_stand, state_inside,
+    alone_contained, cover_meets, handler_contained, inside_keeps, known_in_itself,
+    lies_in_point_tells, limits_give, local_is_unique, main_contained, narrowing_meets,
+    place_holds, place_tells, restored_gives, some_stand, state_inside, version_two_stays,
 };
 pub use local_rule::local;
 pub use next::Next;

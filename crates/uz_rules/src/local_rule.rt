@@ -7,23 +7,25 @@ ghost use Rattle.uz_schedule.specs.WellFormed.{WellFormed};
 ghost use Rattle.uz_schedule.specs.Lines.{order_of};
 ghost use Rattle.uz_transfer.specs.Step.{IsReadAt, at_exit};
 ghost use Rattle.uz_rules.specs.EdgeRule.{each_exit};
-ghost use Rattle.uz_rules.specs.Successors.{lies_in_any};
 ghost use Rattle.uz_transfer.specs.Kinds.{is_main};
 ghost use Rattle.uz_transfer.specs.Refusals.{refuse_if};
 ghost use Rattle.uz_rules.specs.Limits.{InstanceLimits};
-ghost use Rattle.uz_rules.specs.Local.{is_stop, rest_in, return_fail, first_exit, end_of, has_successors, result_fail};
+ghost use Rattle.uz_transfer.specs.Narrowed.{narrowed};
+ghost use Rattle.uz_rules.specs.Local.{is_stop, rest_in, return_fail, first_exit, end_of, has_successors, passes, result_fail};
 ghost use Rattle.uz_rules.specs.Local.{compares_edges, step_fail, instance_fail, IsLocal, reason, counted};
 
+use crate::cover::lies_or_is_covered;
 use crate::edge_rule::edges_fit;
 use crate::inclusion::{cells_inside, restored};
-use crate::successors::lies_in_any;
 use crate::visit::Visit;
 use avr_decode::decode;
 use avr_table::Instr;
 use uz_core::Effect;
 use uz_hex::Image;
 use uz_schedule::{Cert, EventKind, Instance, Kind, Point, Rest};
-use uz_transfer::{Exit, Fail, Step, main_emits, put_at, put_step, word_after};
+use uz_transfer::{
+    Exit, Fail, Step, Test, left_at, main_emits, put_at, put_left, put_step, word_after,
+};
 
 /// The reason, where it stands, else the later one.
 fn refuse_if(stands: bool, why: Fail, later: Option<Fail>) -> Option<Fail>
@@ -95,58 +97,99 @@ fn end_fail(cert: &Cert, at: &Instance, step: &mut Step) -> Option<Fail>
     return_fail(cert.rests.as_slice(), &step.draft)
 }
 
-/// Whether what is known after an instruction lies, at each of these exits, in an instance of a named successor. `draft` is put to one exit
-/// after another, so that no list of results is made.
+/// Whether a result passes, narrowed by what its exit tells of main, or no state goes there. The narrower ranges stand in the result
+/// while it is looked for, and the old ones again afterwards.
+fn passes_narrowed(cert: &Cert, point: &Point, test: Test, exit: Exit, at: &mut Instance) -> bool
+    requires fits { WellFormed cert.now }
+    ensures passes { result ≡ passes cert.now point.now.next.items point.now.split (narrowed test exit at.old) }
+    ensures stays { at.new ≡ at.old }
+{
+    match left_at(at, test, exit) {
+        Some(left) => {
+            let old = put_left(at, left);
+            let passes = lies_or_is_covered(cert, point, at);
+            put_left(at, old);
+            passes
+        }
+        None => true,
+    }
+}
+
+/// Whether a result passes.
+fn passes(cert: &Cert, point: &Point, test: Test, exit: Exit, at: &mut Instance) -> bool
+    requires fits { WellFormed cert.now }
+    ensures passes { result ≡ passes cert.now point.now.next.items point.now.split (narrowed test exit at.old) }
+    ensures stays { at.new ≡ at.old }
+{
+    match test {
+        Test::Nothing => lies_or_is_covered(cert, point, at),
+        _ => passes_narrowed(cert, point, test, exit, at),
+    }
+}
+
+/// What is the same at each exit of a step.
+#[derive(Clone, Copy)]
+struct Way {
+    /// What is emitted.
+    emitted: Option<EventKind>,
+    /// Whether the compare match is cleared.
+    clears: bool,
+    /// What is asked of main's state.
+    test: Test,
+}
+
+/// Whether what is known after an instruction passes at each of these exits. `draft` is put to one exit after another, so that no list of
+/// results is made.
 fn lie_in_successors(
     cert: &Cert,
-    next: &[u32],
+    point: &Point,
     at: &Instance,
     draft: &mut Instance,
-    emitted: Option<EventKind>,
-    clears: bool,
+    way: Way,
     exits: &[Exit],
 ) -> bool
     requires fits { WellFormed cert.now }
     requires limits { InstanceLimits cert.now at.now }
-    ensures { result ≡ each_exit (λ exit. lies_in_any cert.now next.now
-        (at_exit (order_of cert.now.schedule) at.now draft.old emitted clears exit)) exits.now }
+    ensures { result ≡ each_exit (λ exit. passes cert.now point.now.next.items point.now.split
+        (narrowed way.test exit (at_exit (order_of cert.now.schedule) at.now draft.old way.emitted way.clears exit))) exits.now }
 {
     for exit in exits {
-        put_at(draft, &cert.schedule, at, emitted, clears, *exit);
-        if !lies_in_any(cert, next, draft) {
+        put_at(draft, &cert.schedule, at, way.emitted, way.clears, *exit);
+        if !passes(cert, point, way.test, *exit, draft) {
             return false;
         }
     }
     true
 }
 
-/// Whether each result lies in an instance of a named successor. The step's draft is put to one exit after another.
-fn has_successors(cert: &Cert, next: &[u32], at: &Instance, step: &mut Step) -> bool
+/// Whether each result passes. The step's draft is put to one exit after another.
+fn has_successors(cert: &Cert, point: &Point, at: &Instance, step: &mut Step) -> bool
     requires fits { WellFormed cert.now }
     requires limits { InstanceLimits cert.now at.now }
-    ensures { result ≡ has_successors cert.now next.now at.now step.old }
+    ensures { result ≡ has_successors cert.now point.now.next.items point.now.split at.now step.old }
 {
-    lie_in_successors(
-        cert,
-        next,
-        at,
-        &mut step.draft,
-        step.emit,
-        step.clears,
-        step.exits.as_slice(),
-    )
+    let way = Way {
+        emitted: step.emit,
+        clears: step.clears,
+        test: step.test,
+    };
+    lie_in_successors(cert, point, at, &mut step.draft, way, step.exits.as_slice())
 }
 
 /// Why the results of an instance are refused.
-fn result_fail(cert: &Cert, next: &[u32], at: &Instance, step: &mut Step) -> Option<Fail>
+fn result_fail(cert: &Cert, point: &Point, at: &Instance, step: &mut Step) -> Option<Fail>
     requires fits { WellFormed cert.now }
     requires limits { InstanceLimits cert.now at.now }
-    ensures { result ≡ result_fail cert.now next.now at.now step.old }
+    ensures { result ≡ result_fail cert.now point.now.next.items point.now.split at.now step.old }
 {
     if step.back {
         end_fail(cert, at, step)
     } else {
-        refuse_if(!has_successors(cert, next, at, step), Fail::Successor, None)
+        refuse_if(
+            !has_successors(cert, point, at, step),
+            Fail::Successor,
+            None,
+        )
     }
 }
 
@@ -160,22 +203,28 @@ fn compares_edges(cert: &Cert, at: &Instance, step: &Step) -> bool
 }
 
 /// Why an instance is refused, whose instruction has this step.
-fn step_fail(cert: &Cert, next: &[u32], at: &Instance, emits: bool, step: &mut Step) -> Option<Fail>
+fn step_fail(
+    cert: &Cert,
+    point: &Point,
+    at: &Instance,
+    emits: bool,
+    step: &mut Step,
+) -> Option<Fail>
     requires fits { WellFormed cert.now }
     requires limits { InstanceLimits cert.now at.now }
-    ensures { result ≡ step_fail cert.now next.now at.now emits (Ok step.old) }
+    ensures { result ≡ step_fail cert.now point.now.next.items point.now.split at.now emits (Ok step.old) }
 {
     if emits || !compares_edges(cert, at, step) {
         return Some(Fail::Edge);
     }
-    result_fail(cert, next, at, step)
+    result_fail(cert, point, at, step)
 }
 
 /// Why an instance is refused, under its instruction and the instruction's effect. `step` is room for its step, whatever it has.
 pub(crate) fn instance_fail(
     image: &Image,
     cert: &Cert,
-    next: &[u32],
+    point: &Point,
     i: &Instr,
     e: Effect,
     at: &Instance,
@@ -185,11 +234,11 @@ pub(crate) fn instance_fail(
     requires limits { InstanceLimits cert.now at.now }
     requires effect { e ≡ effect_of i.now }
     requires operands { EffectFits e }
-    ensures { result ≡ instance_fail image.now cert.now next.now (Some i.now) (Some at.now) }
+    ensures { result ≡ instance_fail image.now cert.now point.now.next.items point.now.split (Some i.now) (Some at.now) }
 {
     let emits = is_main(at) && main_emits(e, at);
     match put_step(image, &cert.head, &cert.schedule, at, i, e, step) {
-        Ok(()) => step_fail(cert, next, at, emits, step),
+        Ok(()) => step_fail(cert, point, at, emits, step),
         Err(why) => Some(why),
     }
 }

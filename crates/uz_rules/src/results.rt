@@ -1,19 +1,20 @@
 //! The abstract results of an instance, one by one.
 
-ghost use Rattle.std.specs.Prelude.{◌≡◌, ◌<◌, ◌≤◌, [], Ok, Err, OnOk, IfErr, length, map};
+ghost use Rattle.std.specs.Prelude.{◌≡◌, ◌<◌, ◌≤◌, ◌++◌, [], Ok, Err, OnOk, IfErr, length};
 ghost use Rattle.uz_schedule.specs.Lines.{order_of};
 ghost use Rattle.uz_schedule.specs.Limits.{most_lines};
 ghost use Rattle.uz_schedule.specs.Schedule.{scanline, length_of};
 ghost use Rattle.uz_transfer.specs.Kinds.{depth_limit};
-ghost use Rattle.uz_transfer.specs.Step.{at_exit};
-ghost use Rattle.uz_rules.specs.After.{timed, next_of, IsAfter};
+ghost use Rattle.uz_transfer.specs.Narrowed.{narrowed as narrowed_at_exit};
+ghost use Rattle.uz_transfer.specs.Step.{at_exit, successor};
+ghost use Rattle.uz_rules.specs.After.{timed, if_there, results_of, next_of, IsAfter};
 
 use crate::local_rule::first_exit;
 use crate::next::Next;
 use arrayvec::ArrayVec;
 use uz_hex::Image;
 use uz_schedule::{EventKind, Head, Instance, Schedule};
-use uz_transfer::{Exit, Fail, Step, abstract_step, copied, put_at};
+use uz_transfer::{Exit, Fail, Step, Test, abstract_step, copied, left_at, put_at, put_left};
 
 /// What is emitted, with its clock.
 fn timed(emitted: Option<EventKind>, clocks: u8) -> Option<(u8, EventKind)>
@@ -25,32 +26,58 @@ fn timed(emitted: Option<EventKind>, clocks: u8) -> Option<(u8, EventKind)>
     }
 }
 
-/// What is known at one exit.
+/// A result, narrowed by what its exit tells of main. None: no state goes there.
+fn narrowed(known: Instance, test: Test, exit: Exit) -> Option<Instance>
+    ensures { result ≡ narrowed_at_exit test exit known }
+{
+    let mut known = known;
+    match left_at(&known, test, exit) {
+        Some(left) => {
+            put_left(&mut known, left);
+            Some(known)
+        }
+        None => None,
+    }
+}
+
+/// What is known at one exit. The draft becomes the result.
 fn result_at(
-    draft: &Instance,
+    draft: Instance,
     schedule: &Schedule,
     at: &Instance,
     emitted: Option<EventKind>,
     clears: bool,
+    test: Test,
     exit: Exit,
-) -> Instance
+) -> Option<Instance>
     requires count { length schedule.now.lines ≤ most_lines }
     requires line { at.now.line < length schedule.now.lines }
     requires clock { at.now.clock < scanline }
-    ensures { result ≡ at_exit (order_of schedule.now) at.now draft.now emitted clears exit }
+    ensures { result ≡ narrowed_at_exit test exit (at_exit (order_of schedule.now) at.now draft emitted clears exit) }
 {
-    let mut result = copied(draft);
-    put_at(&mut result, schedule, at, emitted, clears, exit);
-    result
+    let mut known = draft;
+    put_at(&mut known, schedule, at, emitted, clears, exit);
+    match test {
+        Test::Nothing => Some(known),
+        _ => narrowed(known, test, exit),
+    }
+}
+
+/// Adds a result, where there is one.
+fn push_some(out: &mut ArrayVec<Instance, 16>, known: Option<Instance>)
+    requires { length out.old.items < 16 }
+    ensures { out.new.items ≡ out.old.items ++ if_there known }
+{
+    if let Some(known) = known {
+        out.push(known);
+    }
 }
 
 /// Puts what is known at each of these exits into an empty list.
 fn push_results(
-    draft: &Instance,
+    step: &Step,
     schedule: &Schedule,
     at: &Instance,
-    emitted: Option<EventKind>,
-    clears: bool,
     exits: &[Exit],
     out: &mut ArrayVec<Instance, 16>,
 )
@@ -59,35 +86,56 @@ fn push_results(
     requires clock { at.now.clock < scanline }
     requires empty { out.old.items ≡ [] }
     requires few { length exits.now ≤ 16 }
-    ensures { out.new.items ≡ map (λ exit. at_exit (order_of schedule.now) at.now draft.now emitted clears exit) exits.now }
+    ensures { out.new.items ≡ results_of (order_of schedule.now) at.now step.now exits.now }
 {
     for exit in exits {
-        out.push(result_at(draft, schedule, at, emitted, clears, *exit));
+        let draft = copied(&step.draft);
+        push_some(
+            out,
+            result_at(
+                draft,
+                schedule,
+                at,
+                step.emit,
+                step.clears,
+                step.test,
+                *exit,
+            ),
+        );
     }
 }
 
-/// Puts what is known at each exit in place of a list. The draft itself becomes the last result, and is copied for those before it.
-fn put_results(
-    draft: Instance,
-    schedule: &Schedule,
-    at: &Instance,
-    emitted: Option<EventKind>,
-    clears: bool,
-    exits: &[Exit],
-    out: &mut ArrayVec<Instance, 16>,
-)
+/// What is known at the last exit: the step's draft itself.
+fn last_result(step: Step, schedule: &Schedule, at: &Instance, exit: Exit) -> Option<Instance>
     requires count { length schedule.now.lines ≤ most_lines }
     requires line { at.now.line < length schedule.now.lines }
     requires clock { at.now.clock < scanline }
-    requires few { length exits.now ≤ 16 }
-    ensures { out.new.items ≡ map (λ exit. at_exit (order_of schedule.now) at.now draft emitted clears exit) exits.now }
+    ensures { result ≡ narrowed_at_exit step.test exit (successor (order_of schedule.now) at.now step exit) }
+{
+    let Step {
+        draft,
+        exits: _exits,
+        emit,
+        back: _,
+        clears,
+        test,
+    } = step;
+    result_at(draft, schedule, at, emit, clears, test, exit)
+}
+
+/// Puts what is known at each exit in place of a list. The draft itself becomes the last result, and is copied for those before it.
+#[tactic(auto, using(crate::proofs::AfterLaws::results_more, crate::proofs::AfterLaws::few_results))]
+fn put_results(step: Step, schedule: &Schedule, at: &Instance, out: &mut ArrayVec<Instance, 16>)
+    requires count { length schedule.now.lines ≤ most_lines }
+    requires line { at.now.line < length schedule.now.lines }
+    requires clock { at.now.clock < scanline }
+    ensures { out.new.items ≡ results_of (order_of schedule.now) at.now step step.exits.items }
 {
     out.clear();
-    if let Some((last, others)) = exits.split_last() {
-        push_results(&draft, schedule, at, emitted, clears, others, out);
-        let mut result = draft;
-        put_at(&mut result, schedule, at, emitted, clears, *last);
-        out.push(result);
+    if let Some((last, others)) = step.exits.as_slice().split_last() {
+        let last = *last;
+        push_results(&step, schedule, at, others, out);
+        push_some(out, last_result(step, schedule, at, last));
     }
 }
 
@@ -98,24 +146,9 @@ fn put_next(schedule: &Schedule, at: &Instance, step: Step, next: &mut Next)
     requires clock { at.now.clock < scanline }
     ensures { Ok next.new ≡ next_of (order_of schedule.now) at.now (Ok step) }
 {
-    let Step {
-        draft,
-        exits,
-        emit,
-        back,
-        clears,
-    } = step;
-    next.emit = timed(emit, first_exit(exits.as_slice()).clocks);
-    next.back = back;
-    put_results(
-        draft,
-        schedule,
-        at,
-        emit,
-        clears,
-        exits.as_slice(),
-        &mut next.out,
-    );
+    next.emit = timed(step.emit, first_exit(step.exits.as_slice()).clocks);
+    next.back = step.back;
+    put_results(step, schedule, at, &mut next.out);
 }
 
 /// Puts the abstract results of an instance in place of others, as `after` gives them; where there are none, it answers the reason, and

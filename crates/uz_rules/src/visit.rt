@@ -106,7 +106,7 @@ fn visit_fail(
     requires fits { WellFormed cert.now }
     requires point { slice_get cert.now.points id ≡ Some point.now }
     requires keeps { Keeps point.now visit.old }
-    ensures why { result ≡ local_fail image.now cert.now point.now.next.items visit.old.row (instance_at cert.now id l c) }
+    ensures why { result ≡ local_fail image.now cert.now point.now.next.items point.now.split visit.old.row (instance_at cert.now id l c) }
     ensures keeps { Keeps point.now visit.new }
     ensures row { visit.new.row ≡ visit.old.row }
 {
@@ -118,15 +118,7 @@ fn visit_fail(
         return Some(Fail::Opcode);
     }
     if come_to(visit, cert, id, point, l, c) {
-        instance_fail(
-            image,
-            cert,
-            point.next.as_slice(),
-            &i,
-            e,
-            &visit.at,
-            &mut visit.step,
-        )
+        instance_fail(image, cert, point, &i, e, &visit.at, &mut visit.step)
     } else {
         Some(Fail::Box)
     }
