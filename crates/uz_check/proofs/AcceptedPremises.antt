@@ -34,17 +34,17 @@ rest_holds laws cert rest h = record {
   vector = λ c few. covered laws.lies cert rest.vector (rest_instance cert rest c) (h.vector c few);
 }
 
-local_holds : (laws : RuleLaws) (image : FinMap nat_cmp ℕ) (cert : Cert) → Accepts image cert → (id l c : ℕ) (inst : Instance)
+local_holds : (image : FinMap nat_cmp ℕ) (cert : Cert) → Accepts image cert → (id l c : ℕ) (inst : Instance)
     → instance_at cert id l c ≡ Some inst → LocalHolds image cert inst
-local_holds laws image cert h id l c inst e =
+local_holds image cert h id l c inst e =
     let point = opened (λ p. instance_in cert.schedule p l c) (slice_get cert.points id) inst e in
-    local_tells laws.lies image cert id l c inst (h.points id l c point.0 point.1 (of_point cert point.0 l c inst point.2).box) e
+    local_tells image cert id l c inst (h.points id l c point.0 point.1 (of_point cert point.0 l c inst point.2).box) e
 
 pub premises_hold : (laws : RuleLaws) (image : FinMap nat_cmp ℕ) (cert : Cert) → WellFormed cert → Accepts image cert → Premises image cert
 premises_hold laws image cert formed h = record {
   laws = laws;
   limits = limits_of cert formed;
-  local = local_holds laws image cert h;
+  local = local_holds image cert h;
   rests = λ rest has. rest_holds laws cert rest (h.rests rest has);
   entry = covered laws.lies cert cert.entry.id (entry_instance cert) h.entry.lies;
 }

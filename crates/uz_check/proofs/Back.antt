@@ -25,6 +25,7 @@ use Rattle.uz_range.specs.Containment.{IsWithin}
 use Rattle.uz_transfer.specs.declared.step.Exit.{Exit}
 use Rattle.uz_transfer.specs.declared.step.Step.{Step}
 use Rattle.uz_transfer.specs.Values.{value_at, flag_at, pair_at, span_at}
+use Rattle.uz_rules.proofs.ComparedLaws.{compared_stays}
 use Rattle.uz_rules.specs.CoreMeets.{ValueHolds, FlagHolds, CoreMeets}
 use Rattle.uz_rules.specs.MemoryMeets.{CellsHold, depth_below}
 use Rattle.uz_transfer.specs.Kinds.{cell_place}
@@ -190,6 +191,8 @@ returned_follows image cert p s inst main o was local h then_state flash level r
                 enabled = set_seven s.core.sreg ∙ sym (ap is_main main_kind);
                 core = core_same main o was.core (returned s).core given.registers (λ k few. set_others s.core.sreg k few ∙ given.flags k
                     few) was_meets.core;
+                compared = compared_stays main.compared was.core (returned s).core (λ k few. set_others s.core.sreg k (omega (arith, few))
+                    ∙ given.flags k (omega (arith, few))) (λ q few named. given.registers q few) was_meets.compared;
                 memory = record {
                   slots = λ i few.
                       let at : was.core.sp + d - i ≡ s.core.sp + 2 + d - i = omega (arith, sp) in

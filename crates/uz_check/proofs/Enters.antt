@@ -159,6 +159,7 @@ entered_follows image cert p s main o rest h is_state then_state flash level run
       pc = refl;
       enabled = clear_seven s.core.sreg;
       core = old_core cert rest n s is_state.core;
+      compared = tt;
       memory = record {
         slots = λ i k. absurd (omega (arith, k));
         cells = cells;

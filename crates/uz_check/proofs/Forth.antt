@@ -1,7 +1,7 @@
 -- The turn that is an instruction but RETI.
-use Rattle.std.proofs.Common.{◌≡◌, ◌⊎◌, inl, inr, All, Contains, ℕ, suc, ◌+◌, ◌-◌, ◌%◌, ◌<◌, ◌≤◌, false, List, [], refl, sym, ◌∙◌, ap}
+use Rattle.std.proofs.Common.{◌≡◌, ◌⊎◌, inl, inr, All, Contains, ℕ, suc, ◌+◌, ◌-◌, ◌%◌, ◌<◌, ◌≤◌, true, false, List, [], refl, sym, ◌∙◌, ap}
 use Rattle.std.proofs.Common.{subst, arith}
-use Rattle.std.specs.Prelude.{Some, None, ◌||◌}
+use Rattle.std.specs.Prelude.{Option, Some, None, ◌||◌}
 use Rattle.std.specs.Ordering.{nat_cmp}
 use Rattle.std.specs.FinMap.{FinMap}
 use Rattle.std.proofs.Math.Bool.{or-true}
@@ -14,6 +14,7 @@ use Rattle.uz_schedule.specs.declared.certificate.Cert.{Cert}
 use Rattle.uz_schedule.specs.Schedule.{At, length_of, next_line, event_at, level_at}
 use Rattle.uz_core.specs.declared.machine.Edge.{Edge}
 use Rattle.uz_core.specs.Core.{Core}
+use Rattle.uz_core.specs.CoreRange.{IsCore}
 use Rattle.uz_core.specs.Timer.{count_after, matches_within}
 use Rattle.uz_core.specs.PadLine.{PadHistory}
 use Rattle.uz_core.specs.Space.{plain_byte}
@@ -27,16 +28,20 @@ use Rattle.uz_transfer.specs.Kinds.{is_main, is_handler}
 use Rattle.uz_transfer.specs.Memory.{depth_of}
 use Rattle.uz_rules.specs.Events.{shown, shown_at, listed}
 use Rattle.uz_transfer.specs.Emission.{level_after}
+use Rattle.uz_transfer.specs.Narrowed.{is_taken, left_at, left_of, narrowed, with_left, with_some_left}
 use Rattle.uz_transfer.specs.Step.{successor}
+use Rattle.uz_transfer.specs.declared.narrowing.Left.{Left}
 use Rattle.uz_schedule.specs.Lines.{line_after, clock_after}
-use Rattle.uz_rules.specs.Meets.{LevelMeets}
-use Rattle.uz_rules.specs.OneStep.{MainTimer as RunsOn, OneStep}
+use Rattle.uz_rules.specs.Local.{passes}
+use Rattle.uz_rules.specs.Meets.{LevelMeets, Meets}
+use Rattle.uz_rules.specs.OneStep.{MainTimer as RunsOn, MeetsLeft, OneStep}
 use Rattle.uz_check.specs.Claim.{scheduled, InTime}
 use Rattle.uz_schedule.specs.Lines.{order_of}
 use Rattle.uz_schedule.proofs.Starts.{frame_some}
 use Rattle.uz_rules.specs.EdgeRule.{position_of}
 use Rattle.uz_check.proofs.Fits.{IsPlaced}
-use Rattle.uz_check.proofs.Premises.{IsCovered, EdgeHolds, Succeeds, LocalHolds, RestHolds, Premises}
+use Rattle.uz_check.proofs.Premises.{IsCovered, EdgeHolds, Succeeds, LocalHolds, RestHolds, RuleLaws, Premises}
+use Rattle.uz_check.proofs.LocalTells.{any_covered}
 use Rattle.uz_check.specs.Ways.{IsPlain, Spends}
 use Rattle.uz_check.specs.Invariant.{Stands, RunsAlone, RunsMain, RunsHandler, AloneRuns, MainRuns, HandlerRuns, IsKept, Before, Due}
 use Rattle.uz_check.proofs.Turned.{Turned}
@@ -121,6 +126,18 @@ pub record Carries (image : FinMap nat_cmp ℕ) (edges : List Edge) (new : State
   pub flash : new.image ≡ image
   pub entries : All (λ e. InTime e.kind) edges
 
+-- a state that meets a result which passes meets it with what a cover leaves of registers and pairs, and that lies in an instance
+record IsPassed (cert : Cert) (r : Instance) (o : Core) (d : ℕ) (s : State PadHistory) : Type 0 where
+  left : Left
+  meets : Meets cert.head (with_left left r) o d s
+  covered : IsCovered cert (with_left left r)
+
+passed : (laws : RuleLaws) (cert : Cert) (next : List ℕ) (split : Option ℕ) (r : Instance) (o : Core) (d : ℕ) (s : State PadHistory)
+    → IsCore s.core → passes cert next split (Some r) ≡ true → Meets cert.head r o d s → IsPassed cert r o d s
+passed laws cert next split r o d s is_core passes meets =
+    let one = laws.cover cert.head cert next split r o d s is_core passes meets in
+    record { left = one.left; meets = one.meets; covered = any_covered laws.lies cert next (with_left one.left r) one.lies }
+
 -- outside main, where the result lands
 record Outside (cert : Cert) (kind : Kind) (o : Core) (d p : ℕ) (s new : State PadHistory) (edges : List Edge) (c : ℕ) : Type 0 where
   inst : Instance
@@ -130,26 +147,31 @@ record Outside (cert : Cert) (kind : Kind) (o : Core) (d p : ℕ) (s new : State
   exact : shown edges ≡ scheduled (event_at cert.schedule) p s.clock c
 
 outside : (image : FinMap nat_cmp ℕ) (cert : Cert) (p : ℕ) (s : State PadHistory) (kind : Kind) (inst : Instance) (o : Core) (d : ℕ)
-    (edges : List Edge) (new : State PadHistory) (step : Step) → Premises image cert → IsState new → is_main kind ≡ false
-    → level_at cert.schedule p ≡ Some (sync_level s.space) → Stands cert kind o d inst s → At cert.schedule p inst.line inst.clock
+    (edges : List Edge) (new : State PadHistory) (step : Step) (next : List ℕ) (split : Option ℕ) → Premises image cert
+    → IsState new → is_main kind ≡ false → level_at cert.schedule p ≡ Some (sync_level s.space) → Stands cert kind o d inst s
+    → At cert.schedule p inst.line inst.clock
     → ((exit : Exit) → Contains step.exits.items exit → 1 ≤ exit.clocks → scheduled (event_at cert.schedule)
     (position_of cert.schedule inst) s.clock exit.clocks ≡ listed (shown_at step.emit (s.clock + exit.clocks)))
-    → ((exit : Exit) → Contains step.exits.items exit → IsCovered cert (successor (order_of cert.schedule) inst step exit))
+    → Succeeds cert next split inst step false
     → (one : OneStep cert.head (order_of cert.schedule) inst o d step s edges new) → Outside cert kind o d p s new edges one.exit.clocks
-outside image cert p s kind inst o d edges new step h then_state other level stands place edge covers one =
+outside image cert p s kind inst o d edges new step next split h then_state other level stands place edge succeeds one =
     let r = successor (order_of cert.schedule) inst step one.exit in
     let not_main : is_main inst.kind ≡ false = ap is_main stands.of_kind ∙ other in
+    let meets : Meets cert.head r o d new = subst (λ t. MeetsLeft cert.head (narrowed t one.exit r) o d new) (one.asks not_main) one.meets in
     let kept = keeps image cert p s new edges inst step one.exit h not_main level place (edge one.exit one.is_exit one.at_least_one)
-    one.events stands.meets.level one.meets.level in
-    let covered = covers one.exit one.is_exit in
-    let b = covered.inst in
-    let fits = is_placed cert h.limits covered.id covered.l covered.c b covered.is in
-    let same = place_tells r b covered.inside in
+    one.events stands.meets.level meets.level in
+    let may_pass : passes cert next split (Some r) ≡ true =
+    subst (λ t. passes cert next split (narrowed t one.exit r) ≡ true) (one.asks not_main) (succeeds one.exit one.is_exit) in
+    let to = passed h.laws cert next split r o d new then_state.core may_pass meets in
+    let q = with_left to.left r in
+    let b = to.covered.inst in
+    let fits = is_placed cert h.limits to.covered.id to.covered.l to.covered.c b to.covered.is in
+    let same = place_tells q b to.covered.inside in
     let there = at_same cert.schedule (p + one.exit.clocks) r.line b.line r.clock b.clock same.line same.clock kept.place in
     let sync = level_of_instance cert (p + one.exit.clocks) (sync_level new.space) b fits kept.level there in
     record {
       inst = b;
-      stands = lands h.laws.inside cert kind o d r new then_state stands.old stands.of_kind one.meets covered (inr sync);
+      stands = lands h.laws.inside cert kind o d q new then_state stands.old stands.of_kind to.meets to.covered (inr sync);
       place = there;
       level = kept.level;
       exact = kept.exact;
@@ -162,11 +184,12 @@ pub alone_forth : (image : FinMap nat_cmp ℕ) (cert : Cert) (p : ℕ) (s : Stat
     → (runs : AloneRuns cert p s inst o) → local.step.back ≡ false
     → OneStep cert.head (order_of cert.schedule) inst o 0 local.step s edges new → Turned image cert p s (RunsAlone inst o) edges new
 alone_forth image cert p s inst o edges new local h carries plain level runs forth one =
-    let covers : Succeeds cert inst local.step false = subst (Succeeds cert inst local.step) forth local.successor in
+    let succeeds : Succeeds cert local.next local.split inst local.step false =
+    subst (Succeeds cert local.next local.split inst local.step) forth local.successor in
     let edge : EdgeHolds image cert Alone inst local.step = subst (λ k. EdgeHolds image cert k inst local.step) runs.stands.of_kind
     local.edge in
-    let to = outside image cert p s Alone inst o 0 edges new local.step h carries.is_state refl level runs.stands runs.place
-    (λ exit has some. edge exit s.clock has some) covers one in
+    let to = outside image cert p s Alone inst o 0 edges new local.step local.next local.split h carries.is_state refl level runs.stands
+    runs.place (λ exit has some. edge exit s.clock has some) succeeds one in
     record {
       follows = record {
         clocks = one.exit.clocks;
@@ -208,11 +231,12 @@ pub handler_forth : (image : FinMap nat_cmp ℕ) (cert : Cert) (p : ℕ) (s : St
     → OneStep cert.head (order_of cert.schedule) inst was.core (depth_of main) local.step s edges new → Turned image cert p s
     (RunsHandler inst main o was) edges new
 handler_forth image cert p s inst main o was edges new local h carries plain level runs forth one =
-    let covers : Succeeds cert inst local.step false = subst (Succeeds cert inst local.step) forth local.successor in
+    let succeeds : Succeeds cert local.next local.split inst local.step false =
+    subst (Succeeds cert local.next local.split inst local.step) forth local.successor in
     let edge : EdgeHolds image cert Handler inst local.step = subst (λ k. EdgeHolds image cert k inst local.step) runs.stands.of_kind
     local.edge in
-    let to = outside image cert p s Handler inst was.core (depth_of main) edges new local.step h carries.is_state refl level runs.stands
-    runs.place (λ exit has some. edge exit s.clock has some) covers one in
+    let to = outside image cert p s Handler inst was.core (depth_of main) edges new local.step local.next local.split h carries.is_state
+    refl level runs.stands runs.place (λ exit has some. edge exit s.clock has some) succeeds one in
     record {
       follows = record {
         clocks = one.exit.clocks;
@@ -327,6 +351,22 @@ short_count length c s new m long few within =
           omega (arith, count, within, few, long, m.top)
     ]
 
+-- where what is left of a result lands
+record MainLands (cert : Cert) (o : Core) (new : State PadHistory) : Type 0 where
+  inst : Instance
+  stands : Stands cert Main o 0 inst new
+
+main_lands : (laws : RuleLaws) (cert : Cert) (next : List ℕ) (split : Option ℕ) (left : Option Left) (r : Instance) (o : Core)
+    (new : State PadHistory) → IsState new → IsCore o → r.kind ≡ Main → MeetsLeft cert.head (with_some_left left r) o 0 new
+    → passes cert next split (with_some_left left r) ≡ true → MainLands cert o new
+main_lands laws cert next split None r o new is_state old kind meets may_pass = absurd meets
+main_lands laws cert next split (Some left) r o new is_state old kind meets may_pass =
+    let to = passed laws cert next split (with_left left r) o 0 new is_state.core may_pass meets in
+    record {
+      inst = to.covered.inst;
+      stands = lands laws.inside cert Main o 0 (with_left to.left (with_left left r)) new is_state old kind to.meets to.covered (inl refl);
+    }
+
 -- main goes on
 pub main_forth : (image : FinMap nat_cmp ℕ) (cert : Cert) (p : ℕ) (s : State PadHistory) (inst : Instance) (o : Core) (rest : Rest)
     (edges : List Edge) (new : State PadHistory) (local : LocalHolds image cert inst)
@@ -340,11 +380,12 @@ main_forth image cert p s inst o rest edges new local h carries plain level runs
     let kind = runs.stands.of_kind in
     let rule = h.rests rest runs.rests.is_rest in
     let long = line_long z rest.line h.limits.schedule (h.limits.rests rest runs.rests.is_rest).line in
-    let covers : Succeeds cert inst local.step false = subst (Succeeds cert inst local.step) forth local.successor in
+    let succeeds : Succeeds cert local.next local.split inst local.step false =
+    subst (Succeeds cert local.next local.split inst local.step) forth local.successor in
     let on : RunsOn Main c s new = subst (λ k. RunsOn k c s new) kind one.main_timer in
     let timer : MainTimer (length_of z rest.line) s new c = record { top = runs.rests.top; count = on.2; flag = on.3 } in
-    let covered = covers one.exit one.is_exit in
-    let to = lands h.laws.inside cert Main o 0 r new carries.is_state runs.stands.old kind one.meets covered (inl refl) in
+    let to = main_lands h.laws cert local.next local.split (left_at local.step.test (is_taken one.exit) r.compared (left_of r)) r o new
+    carries.is_state runs.stands.old kind one.meets (succeeds one.exit one.is_exit) in
     let quiet = main_quiet cert p s.space.timer.count s.clock c rest rule before.place before.rested before.within one.at_most_four in
     let none : shown edges ≡ [] = one.events ∙ ap (λ e. listed (shown_at e (s.clock + c))) (one.silent (ap is_main kind)) in
     let spent = spends (length_of z rest.line) c s new timer long one.at_most_four before.clear before.within in
@@ -358,9 +399,9 @@ main_forth image cert p s inst o rest edges new local h carries plain level runs
           flash = carries.flash;
           level = level_along z p s.clock c (frame_some z h.limits.schedule)
               ∙ (ap (λ es. last_in es (level_at z p)) quiet ∙ (level ∙ ap (λ v. Some v) (sym on.0)));
-          running = RunsMain covered.inst o rest;
+          running = RunsMain to.inst o rest;
           runs = record {
-            stands = to;
+            stands = to.stands;
             rests = record {
               is_rest = runs.rests.is_rest;
               cells = cells_same cert.head Handler rest.cells.items s.space.bytes new.space.bytes (λ a j e.

@@ -122,7 +122,7 @@ handler_goes image cert p s inst main o was local h is_state flash runs forth =
 -- only the handler has a RETI
 back_of : (image : FinMap nat_cmp ℕ) (cert : Cert) (inst : Instance) (local : LocalHolds image cert inst) → local.step.back ≡ true
     → Returns cert inst local.step
-back_of image cert inst local reti = subst (Succeeds cert inst local.step) reti local.successor
+back_of image cert inst local reti = subst (Succeeds cert local.next local.split inst local.step) reti local.successor
 
 no_return : (image : FinMap nat_cmp ℕ) (cert : Cert) (inst : Instance) (kind : Kind) (local : LocalHolds image cert inst) → inst.kind ≡ kind
     → kind ≢ Handler → local.step.back ≡ true → ⊥

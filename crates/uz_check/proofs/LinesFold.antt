@@ -23,11 +23,15 @@ use Rattle.uz_transfer.specs.declared.step.Exit.{Exit}
 use Rattle.uz_transfer.specs.declared.step.Step.{Step}
 use Rattle.uz_transfer.specs.Kinds.{is_main}
 use Rattle.uz_transfer.specs.Refusals.{refuse_if}
+use Rattle.uz_transfer.specs.Narrowed.{is_taken, left_at, left_of, narrowed, with_left, with_some_left}
 use Rattle.uz_transfer.specs.Step.{step_of_row, successor}
+use Rattle.uz_transfer.specs.Values.{span_of, value_at}
+use Rattle.uz_transfer.specs.declared.narrowing.Left.{Left}
 use Rattle.uz_rules.specs.EdgeRule.{is_event, is_quiet, edges_fit}
 use Rattle.uz_rules.specs.Inside.{same_bool}
 use Rattle.uz_rules.specs.Local.{is_stop, row_emits_in_main, rest_in, return_fail, first_exit, end_of, has_successors, result_fail}
-use Rattle.uz_rules.specs.Local.{compares_edges, step_fail, instance_fail, local_fail}
+use Rattle.uz_rules.specs.Local.{compares_edges, passes, step_fail, instance_fail, local_fail}
+use Rattle.uz_rules.specs.Cover.{most_values, all_from, at_value, covered_by}
 use Rattle.uz_rules.specs.Successors.{lies_in_point, lies_in_any}
 use Rattle.uz_check.specs.Folding.{has_no_line, has_no_line_there, is_plain, kind_of, line_before, kinds_alike, same_rest, rests_alike}
 use Rattle.uz_check.specs.Folding.{lines_alike, is_on_line, is_even, boxes_even, folds, FoldingLaw}
@@ -224,16 +228,52 @@ any_second cert l r (id ∷ ids) same h =
     ∙ ap (λ t. lies_in_point cert id (at_line n r) || t)
     (any_second cert l r ids same (and_right (successor_alike cert.schedule l q) later h))
 
-successors_same : (cert : Cert) (next : List ℕ) (l : ℕ) (i : Instance) (step : Step) → AlikeAt cert l → AllAlike cert l next
-    → has_successors cert next (at_line l i) step ≡ has_successors cert next (at_line (next_line cert.schedule l) i)
+-- with each value of the register of a cover
+each_value_same : (f g : ℕ → Bool) (k n : ℕ) → ((v : ℕ) → f v ≡ g v) → all_from f k n ≡ all_from g k n
+unfolding all_from
+each_value_same f g k zero same = refl
+each_value_same f g k (suc n) same =
+    ap (λ b. b && all_from f (suc k) n) (same k) ∙ ap (λ b. g k && b) (each_value_same f g (suc k) n same)
+
+-- where a result and one on another line are alike with each value of a register, both are covered by them or none
+covered_same : (cert : Cert) (a b : ℕ) (r : Instance) (ids : List ℕ) (split : Option ℕ)
+    → ((x : Instance) → lies_in_any cert ids (at_line a x) ≡ lies_in_any cert ids (at_line b x))
+    → covered_by cert ids split (at_line a r) ≡ covered_by cert ids split (at_line b r)
+covered_same cert a b r ids None same = refl
+covered_same cert a b r ids (Some q) same =
+    let e = span_of (value_at r.regs q) in
+    ap (λ t. nat_lt q 32 && (nat_lt (e.hi - e.lo) most_values && t))
+    (each_value_same (λ v. lies_in_any cert ids (at_value q v (at_line a r))) (λ v. lies_in_any cert ids (at_value q v (at_line b r))) e.lo
+    (suc e.hi - e.lo) (λ v. same (at_value q v r)))
+
+result_same : (cert : Cert) (a b : ℕ) (r : Instance) (ids : List ℕ) (split : Option ℕ)
+    → ((x : Instance) → lies_in_any cert ids (at_line a x) ≡ lies_in_any cert ids (at_line b x))
+    → passes cert ids split (Some (at_line a r)) ≡ passes cert ids split (Some (at_line b r))
+result_same cert a b r ids split same =
+    ap (λ t. t || covered_by cert ids split (at_line a r)) (same r)
+    ∙ ap (λ t. lies_in_any cert ids (at_line b r) || t) (covered_same cert a b r ids split same)
+
+-- of what is left at an exit
+left_same : (cert : Cert) (a b : ℕ) (r : Instance) (ids : List ℕ) (split : Option ℕ) (left : Option Left)
+    → ((x : Instance) → lies_in_any cert ids (at_line a x) ≡ lies_in_any cert ids (at_line b x))
+    → passes cert ids split (with_some_left left (at_line a r)) ≡ passes cert ids split (with_some_left left (at_line b r))
+left_same cert a b r ids split None same = refl
+left_same cert a b r ids split (Some left) same = result_same cert a b (with_left left r) ids split same
+
+successors_same : (cert : Cert) (next : List ℕ) (split : Option ℕ) (l : ℕ) (i : Instance) (step : Step) → AlikeAt cert l
+    → AllAlike cert l next
+    → has_successors cert next split (at_line l i) step ≡ has_successors cert next split (at_line (next_line cert.schedule l) i)
     (step_at (next_line cert.schedule l) step)
-successors_same cert next l i step same named =
+successors_same cert next split l i step same named =
     let s = cert.schedule in
     let m = next_line s l in
-    each_same (λ x. lies_in_any cert next (successor (order_of s) (at_line l i) step x))
-    (λ x. lies_in_any cert next (successor (order_of s) (at_line m i) (step_at m step) x)) step.exits.items
-    (of_result s l i step (lies_in_any cert next) same.first.lengths (λ r. any_first cert l r next same named)
-    (λ r. any_second cert l r next same named))
+    let n = next_line s m in
+    each_same (λ x. passes cert next split (narrowed step.test x (successor (order_of s) (at_line l i) step x)))
+    (λ x. passes cert next split (narrowed step.test x (successor (order_of s) (at_line m i) (step_at m step) x))) step.exits.items
+    (λ x. of_result s l i step (λ r. passes cert next split (narrowed step.test x r)) same.first.lengths
+    (λ r. left_same cert l m r next split (left_at step.test (is_taken x) r.compared (left_of r)) (λ y. any_first cert l y next same named))
+    (λ r. left_same cert m n r next split (left_at step.test (is_taken x) r.compared (left_of r)) (λ y. any_second cert l y next same named))
+    x)
 
 -- Returns
 
@@ -253,59 +293,62 @@ returns_same cert l i step same =
 
 -- The rule
 
-results_same : (cert : Cert) (next : List ℕ) (l : ℕ) (i : Instance) (step : Step) → AlikeAt cert l → AllAlike cert l next
-    → result_fail cert next (at_line l i) step ≡ result_fail cert next (at_line (next_line cert.schedule l) i)
+results_same : (cert : Cert) (next : List ℕ) (split : Option ℕ) (l : ℕ) (i : Instance) (step : Step) → AlikeAt cert l
+    → AllAlike cert l next
+    → result_fail cert next split (at_line l i) step ≡ result_fail cert next split (at_line (next_line cert.schedule l) i)
     (step_at (next_line cert.schedule l) step)
-results_same cert next l i step same named =
+results_same cert next split l i step same named =
     let m = next_line cert.schedule l in
     let a = at_line l i in
     let b = at_line m i in
     let t = step_at m step in
-    ap (λ f. if step.back then f else refuse_if (not (has_successors cert next a step)) Successor None) (returns_same cert l i step same)
+    ap (λ f. if step.back then f else refuse_if (not (has_successors cert next split a step)) Successor None)
+    (returns_same cert l i step same)
     ∙ ap (λ h. if step.back then return_fail (rest_in cert.rests (end_of cert b t).line) (end_of cert b t) else refuse_if (not h) Successor
-    None) (successors_same cert next l i step same named)
+    None) (successors_same cert next split l i step same named)
 
-steps_same : (cert : Cert) (next : List ℕ) (l : ℕ) (i : Instance) (emits : Bool) → AlikeAt cert l → i.clock < length_of cert.schedule l
-    → AllAlike cert l next → (r : Result Step Fail) → FewOf r
-    → step_fail cert next (at_line l i) emits r ≡ step_fail cert next (at_line (next_line cert.schedule l) i) emits
+steps_same : (cert : Cert) (next : List ℕ) (split : Option ℕ) (l : ℕ) (i : Instance) (emits : Bool) → AlikeAt cert l
+    → i.clock < length_of cert.schedule l → AllAlike cert l next → (r : Result Step Fail) → FewOf r
+    → step_fail cert next split (at_line l i) emits r ≡ step_fail cert next split (at_line (next_line cert.schedule l) i) emits
     (result_at (next_line cert.schedule l) r)
-steps_same cert next l i emits same low named (Err why) few = refl
-steps_same cert next l i emits same low named (Ok step) few =
+steps_same cert next split l i emits same low named (Err why) few = refl
+steps_same cert next split l i emits same low named (Ok step) few =
     let m = next_line cert.schedule l in
-    ap (λ b. refuse_if emits Edge (refuse_if (not b) Edge (result_fail cert next (at_line l i) step)))
+    ap (λ b. refuse_if emits Edge (refuse_if (not b) Edge (result_fail cert next split (at_line l i) step)))
     (compares_same cert l i step same low few)
     ∙ ap (λ f. refuse_if emits Edge (refuse_if (not (compares_edges cert (at_line m i) (step_at m step))) Edge f))
-    (results_same cert next l i step same named)
+    (results_same cert next split l i step same named)
 
-instances_same : (image : FinMap nat_cmp ℕ) (cert : Cert) (next : List ℕ) (row : Instr) (l : ℕ) → AlikeAt cert l → AllAlike cert l next
-    → is_stop (effect_of row) ≡ false
-    → (o : Option Instance) → IsAt cert.schedule l o → instance_fail image cert next (Some row) (moved l o) ≡ instance_fail image cert next
-    (Some row) (moved (next_line cert.schedule l) o)
-instances_same image cert next row l same named runs None is = refl
-instances_same image cert next row l same named runs (Some i) is =
+instances_same : (image : FinMap nat_cmp ℕ) (cert : Cert) (next : List ℕ) (split : Option ℕ) (row : Instr) (l : ℕ) → AlikeAt cert l
+    → AllAlike cert l next → is_stop (effect_of row) ≡ false
+    → (o : Option Instance) → IsAt cert.schedule l o → instance_fail image cert next split (Some row) (moved l o) ≡ instance_fail image cert
+    next split (Some row) (moved (next_line cert.schedule l) o)
+instances_same image cert next split row l same named runs None is = refl
+instances_same image cert next split row l same named runs (Some i) is =
     let s = cert.schedule in
     let m = next_line s l in
     let a = at_line l i in
     let b = at_line m i in
     let step = step_of_row cert.head (order_of s) image (Some row) a in
     let lengths : LengthsAlike (order_of s) l m = record { own = same.first.lengths; next = same.second.lengths } in
-    steps_same cert next l i (row_emits_in_main (Some row) a) same is.1 named step (few_row cert.head (order_of s) image row a runs)
-    ∙ (ap (λ t. step_fail cert next b (is_main i.kind && t) (result_at m step)) (main_emits_moves (effect_of row) l i
+    steps_same cert next split l i (row_emits_in_main (Some row) a) same is.1 named step (few_row cert.head (order_of s) image row a runs)
+    ∙ (ap (λ t. step_fail cert next split b (is_main i.kind && t) (result_at m step)) (main_emits_moves (effect_of row) l i
     ∙ sym (main_emits_moves (effect_of row) m i))
-    ∙ ap (step_fail cert next b (row_emits_in_main (Some row) b)) (sym (row_moves cert.head (order_of s) image (Some row) m a lengths)))
+    ∙ ap (step_fail cert next split b (row_emits_in_main (Some row) b)) (sym (row_moves cert.head (order_of s) image (Some row) m a lengths)))
 
 own_line : (s : Schedule) (l : ℕ) (o : Option Instance) → IsAt s l o → o ≡ moved l o
 own_line s l None is = refl
 own_line s l (Some i) is = ap (λ n. Some (at_line n i)) is.0
 
-rows_same : (image : FinMap nat_cmp ℕ) (cert : Cert) (next : List ℕ) (row : Option Instr) (l : ℕ) → AlikeAt cert l → AllAlike cert l next
-    → (o : Option Instance) → IsAt cert.schedule l o → local_fail image cert next row o ≡ local_fail image cert next row
+rows_same : (image : FinMap nat_cmp ℕ) (cert : Cert) (next : List ℕ) (split : Option ℕ) (row : Option Instr) (l : ℕ) → AlikeAt cert l
+    → AllAlike cert l next
+    → (o : Option Instance) → IsAt cert.schedule l o → local_fail image cert next split row o ≡ local_fail image cert next split row
     (moved (next_line cert.schedule l) o)
-rows_same image cert next None l same named o is = refl
-rows_same image cert next (Some row) l same named o is =
+rows_same image cert next split None l same named o is = refl
+rows_same image cert next split (Some row) l same named o is =
     by_case (is_stop (effect_of row)) _ _ (λ runs.
-    ap (instance_fail image cert next (Some row)) (own_line cert.schedule l o is) ∙ instances_same image cert next row l same named runs o
-    is)
+    ap (instance_fail image cert next split (Some row)) (own_line cert.schedule l o is)
+    ∙ instances_same image cert next split row l same named runs o is)
   where
     by_case : (b : Bool) (x y : Option Fail) → (b ≡ false → x ≡ y) → refuse_if b Opcode x ≡ refuse_if b Opcode y
     by_case true x y h = refl
@@ -315,7 +358,7 @@ rows_same image cert next (Some row) l same named o is =
 pub points_same : ScheduleLaws → (image : FinMap nat_cmp ℕ) (cert : Cert) (id l c : ℕ) (p : Point) (row : Option Instr)
     → slice_get cert.points id ≡ Some p → ScheduleFits cert.schedule → l < length cert.schedule.lines
     → is_on_line p l ≡ true → is_on_line p (next_line cert.schedule l) ≡ true → folds cert p l ≡ true
-    → local_fail image cert p.next.items row (instance_at cert id l c) ≡ local_fail image cert p.next.items row
+    → local_fail image cert p.next.items p.split row (instance_at cert id l c) ≡ local_fail image cert p.next.items p.split row
     (instance_at cert id (next_line cert.schedule l) c)
 points_same laws image cert id l c p row found fits inside here there h =
     let s = cert.schedule in
@@ -331,10 +374,10 @@ points_same laws image cert id l c p row found fits inside here there h =
     both_of_all (λ id. has_no_line_there (slice_get cert.points id)) (λ id. is_even s l (slice_get cert.points id)) next
     (and_right (has_no_line p) named is_plain_p) (and_right plain even about) in
     let same = alike_of laws cert l fits inside (and_left (lines_alike cert l) (plain && even) h) in
-    ap (local_fail image cert next row) (by_number cert id l c p found)
-    ∙ (rows_same image cert next row l same all (instance_in s p l c) (instance_is_at s p l c)
-    ∙ (ap (local_fail image cert next row) (sym (instance_moves s p l m c own (here ∙ sym there) same.first))
-    ∙ ap (local_fail image cert next row) (sym (by_number cert id m c p found))))
+    ap (local_fail image cert next p.split row) (by_number cert id l c p found)
+    ∙ (rows_same image cert next p.split row l same all (instance_in s p l c) (instance_is_at s p l c)
+    ∙ (ap (local_fail image cert next p.split row) (sym (instance_moves s p l m c own (here ∙ sym there) same.first))
+    ∙ ap (local_fail image cert next p.split row) (sym (by_number cert id m c p found))))
 
 same_some : {A : Type 0} (o : Option A) (a b : A) → o ≡ Some a → o ≡ Some b → a ≡ b
 same_some o a b e f = cc
@@ -342,10 +385,10 @@ same_some o a b e f = cc
 pub folding_law : ScheduleLaws → FoldingLaw
 folding_law laws image cert id l c p why fits found inside here there h =
     let m = next_line cert.schedule l in
-    let same : (q : Point) (row : Option Instr) → slice_get cert.points id ≡ Some q → local_fail image cert q.next.items row
-    (instance_at cert id l c) ≡ local_fail image cert q.next.items row (instance_at cert id m c) =
-    λ q row e. subst (λ x. local_fail image cert x.next.items row (instance_at cert id l c) ≡ local_fail image cert x.next.items row
-    (instance_at cert id m c)) (same_some (slice_get cert.points id) p q found e)
+    let same : (q : Point) (row : Option Instr) → slice_get cert.points id ≡ Some q → local_fail image cert q.next.items q.split row
+    (instance_at cert id l c) ≡ local_fail image cert q.next.items q.split row (instance_at cert id m c) =
+    λ q row e. subst (λ x. local_fail image cert x.next.items x.split row (instance_at cert id l c) ≡ local_fail image cert x.next.items
+    x.split row (instance_at cert id m c)) (same_some (slice_get cert.points id) p q found e)
     (points_same laws image cert id l c p row found fits inside here there h) in (
       λ a. record { point = a.point; is_point = a.is_point; row = a.row; reads = a.reads; is = a.is ∙ same a.point a.row a.is_point },
       λ a. record { point = a.point; is_point = a.is_point; row = a.row; reads = a.reads; is = a.is ∙ sym (same a.point a.row a.is_point) },

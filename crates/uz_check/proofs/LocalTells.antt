@@ -29,13 +29,14 @@ use Rattle.uz_transfer.specs.declared.step.Exit.{Exit}
 use Rattle.uz_transfer.specs.declared.step.Step.{Step}
 use Rattle.uz_transfer.specs.Kinds.{is_main}
 use Rattle.uz_transfer.specs.Emission.{main_emits}
+use Rattle.uz_transfer.specs.Narrowed.{narrowed}
 use Rattle.uz_transfer.specs.Refusals.{refuse_if}
 use Rattle.uz_transfer.specs.Step.{IsReadAt, IsStep, step_of_row, successor}
 use Rattle.uz_rules.specs.Inside.{cells_inside, restored}
 use Rattle.uz_rules.specs.EdgeRule.{position_of, is_kind, is_event, is_quiet, emits_as_scheduled, edges_fit}
 use Rattle.uz_transfer.specs.Exits.{each_exit}
 use Rattle.uz_rules.specs.Successors.{lies_in_point, lies_in_any, LiesInPoint}
-use Rattle.uz_rules.specs.Local.{is_no_opcode, row_emits_in_main, rest_in, return_fail, first_exit, end_of, has_successors, compares_edges}
+use Rattle.uz_rules.specs.Local.{is_no_opcode, row_emits_in_main, rest_in, return_fail, first_exit, end_of, has_successors, compares_edges, passes}
 use Rattle.uz_rules.specs.Local.{step_fail, instance_fail, IsLocal}
 use Rattle.uz_check.specs.Claim.{scheduled}
 use Rattle.uz_check.proofs.Premises.{IsCovered, EdgeHolds, Succeeds, LocalHolds}
@@ -140,7 +141,7 @@ either_true : (a b : Bool) → (a || b) ≡ true → (a ≡ true) ⊎ (b ≡ tru
 either_true true b e = inl refl
 either_true false b e = inr e
 
-any_covered : (laws : LiesInPoint) (cert : Cert) (ids : List ℕ) (inst : Instance) → lies_in_any cert ids inst ≡ true → IsCovered cert inst
+pub any_covered : (laws : LiesInPoint) (cert : Cert) (ids : List ℕ) (inst : Instance) → lies_in_any cert ids inst ≡ true → IsCovered cert inst
 any_covered laws cert [] inst e = absurd cc
 any_covered laws cert (id ∷ ids) inst e =
     elim (either_true (lies_in_point cert id inst) (lies_in_any cert ids inst) e) [
@@ -194,11 +195,11 @@ return_told cert end (Some rest) is e =
 
 -- The rule
 
-result_tells : (laws : LiesInPoint) (image : FinMap nat_cmp ℕ) (cert : Cert) (next : List ℕ) (inst : Instance) (step : Step)
+result_tells : (image : FinMap nat_cmp ℕ) (cert : Cert) (next : List ℕ) (split : Option ℕ) (inst : Instance) (step : Step)
     → IsStep cert.head (order_of cert.schedule) image inst (Ok step) → (back : Bool) → step.back ≡ back
     → None ≡ cond back (return_fail (rest_in cert.rests (end_of cert inst step).line) (end_of cert inst step))
-    (refuse_if (not (has_successors cert next inst step)) fail.Successor None) → Succeeds cert inst step back
-result_tells laws image cert next inst step is true back e =
+    (refuse_if (not (has_successors cert next split inst step)) fail.Successor None) → Succeeds cert next split inst step back
+result_tells image cert next split inst step is true back e =
     let told = return_told cert (end_of cert inst step) (rest_in cert.rests (end_of cert inst step).line) refl e in
     let reti = return_tells cert.head (order_of cert.schedule) image inst step is back in
     record {
@@ -212,10 +213,10 @@ result_tells laws image cert next inst step is true back e =
       clock = told.clock;
       cells = told.cells;
     }
-result_tells laws image cert next inst step is false back e =
-    let passes = not_false _ (unrefused _ _ _ e).0 in
-    λ exit has. any_covered laws cert next (successor (order_of cert.schedule) inst step exit)
-    (exit_tells (λ x. lies_in_any cert next (successor (order_of cert.schedule) inst step x)) step.exits.items exit passes has)
+result_tells image cert next split inst step is false back e =
+    let all = not_false _ (unrefused _ _ _ e).0 in
+    λ exit has. exit_tells (λ x. passes cert next split (narrowed step.test x (successor (order_of cert.schedule) inst step x)))
+    step.exits.items exit all has
 
 main_silent : (row : Option Instr) (inst : Instance) (i : Instr) (first second : ℕ) → is_main inst.kind ≡ true → row_emits_in_main row
     inst ≡ false → (row ≡ None → ⊥) → ((j : Instr) → row ≡ Some j → i ≡ j) → main_emits (effect_of i) inst ≡ false
@@ -248,12 +249,12 @@ edge_tells image cert row inst step reads opcode silent compares Alone kind =
     let main : is_main inst.kind ≡ false = ap is_main kind in
     exit_scheduled cert inst step (rw main at compares)
 
-step_tells : (laws : LiesInPoint) (image : FinMap nat_cmp ℕ) (cert : Cert) (next : List ℕ) (row : Option Instr) (inst : Instance)
+step_tells : (image : FinMap nat_cmp ℕ) (cert : Cert) (next : List ℕ) (split : Option ℕ) (row : Option Instr) (inst : Instance)
     (result : Result Step Fail) → IsReadAt image inst.pc row → is_no_opcode row ≡ false → step_of_row cert.head
     (order_of cert.schedule) image row inst ≡ result
-    → None ≡ step_fail cert next inst (row_emits_in_main row inst) result → LocalHolds image cert inst
-step_tells laws image cert next row inst (Err why) reads opcode is e = absurd cc
-step_tells laws image cert next row inst (Ok step) reads opcode is e =
+    → None ≡ step_fail cert next split inst (row_emits_in_main row inst) result → LocalHolds image cert inst
+step_tells image cert next split row inst (Err why) reads opcode is e = absurd cc
+step_tells image cert next split row inst (Ok step) reads opcode is e =
     let silent = unrefused _ _ _ e in
     let compares = unrefused _ _ _ silent.1 in
     let step_is : IsStep cert.head (order_of cert.schedule) image inst (Ok step) = record {
@@ -265,20 +266,22 @@ step_tells laws image cert next row inst (Ok step) reads opcode is e =
       step = step;
       step_is = step_is;
       edge = edge_tells image cert row inst step reads opcode silent.0 (not_false _ compares.0) inst.kind refl;
-      successor = result_tells laws image cert next inst step step_is step.back refl compares.1;
+      next = next;
+      split = split;
+      successor = result_tells image cert next split inst step step_is step.back refl compares.1;
     }
 
-pub local_tells : (laws : LiesInPoint) (image : FinMap nat_cmp ℕ) (cert : Cert) (id l c : ℕ) (inst : Instance) → IsLocal image cert id l c
-    None → instance_at cert id l c ≡ Some inst → LocalHolds image cert inst
-local_tells laws image cert id l c inst h e =
+pub local_tells : (image : FinMap nat_cmp ℕ) (cert : Cert) (id l c : ℕ) (inst : Instance) → IsLocal image cert id l c None → instance_at
+    cert id l c ≡ Some inst → LocalHolds image cert inst
+local_tells image cert id l c inst h e =
     let opcode = unrefused _ _ _ h.is in
-    let fails : None ≡ instance_fail image cert h.point.next.items h.row (Some inst) = opcode.1
-    ∙ ap (instance_fail image cert h.point.next.items h.row) e in
+    let fails : None ≡ instance_fail image cert h.point.next.items h.point.split h.row (Some inst) = opcode.1
+    ∙ ap (instance_fail image cert h.point.next.items h.point.split h.row) e in
     let at = opened (λ p. instance_in cert.schedule p l c) (slice_get cert.points id) inst e in
     let same : at.0 ≡ h.point = same_some (slice_get cert.points id) at.0 h.point at.1 h.is_point in
     let pc : h.point.pc ≡ inst.pc = ap (λ (p : Point). p.pc) (sym same) ∙ ap (λ (i : Instance). i.pc)
     (of_point cert at.0 l c inst at.2).is in
-    step_tells laws image cert h.point.next.items h.row inst _ (subst (λ k. IsReadAt image k h.row) pc h.reads) opcode.0 refl fails
+    step_tells image cert h.point.next.items h.point.split h.row inst _ (subst (λ k. IsReadAt image k h.row) pc h.reads) opcode.0 refl fails
   where
     same_some : (o : Option Point) (a b : Point) → o ≡ Some a → o ≡ Some b → a ≡ b
     same_some o a b e f = cc

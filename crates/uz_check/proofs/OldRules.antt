@@ -4,6 +4,7 @@ use Rattle.std.proofs.Common.{◌∷◌, length, refl, sym, ◌∙◌, ap, subst
 use Rattle.std.specs.Prelude.{pos, ◌+ℤ◌, ◌*ℤ◌, ◌&&◌, ◌||◌, not, nat_eq, is_none, Option, Some, None, Result, Ok, Err, option_and_then, slice_get}
 use Rattle.std.specs.Ordering.{nat_cmp}
 use Rattle.std.specs.FinMap.{FinMap}
+use Rattle.std.proofs.Math.Bool.{or-false}
 use Rattle.std.proofs.lemmas.Bool.Decides.{eqb_tells}
 use Rattle.std.proofs.lemmas.Bool.{eq-eqb}
 use Rattle.std.proofs.lemmas.Option.{get_or_from_slice_get, slice_get_within}
@@ -15,10 +16,12 @@ use Rattle.uz_schedule.specs.Instances.{is_in_box, clock_below, instance_of, ins
 use Rattle.uz_schedule.specs.Limits.{ScheduleFits}
 use Rattle.uz_schedule.specs.Lines.{order_of, uniform}
 use Rattle.uz_schedule.specs.Schedule.{scanline, event_at}
-use Rattle.uz_schedule.specs.WellFormed.{IsTimerLeftOut, WellFormed}
+use Rattle.uz_schedule.specs.WellFormed.{IsTimerLeftOut, PointFits, RulesFit, WellFormed}
 use Rattle.uz_schedule.specs.declared.certificate.Cert.{Cert}
 use Rattle.uz_schedule.specs.declared.kinds.Kind.{Kind}
 use Rattle.uz_schedule.specs.declared.kinds.Kind.TheVariants.{Main, Handler, Alone}
+use Rattle.uz_schedule.specs.declared.kinds.RuleVersion.{RuleVersion}
+use Rattle.uz_schedule.specs.declared.kinds.RuleVersion.TheVariants.{Two, Three}
 use Rattle.uz_schedule.specs.declared.lines.EventKind.{EventKind}
 use Rattle.uz_schedule.specs.declared.lines.EventKind.TheVariants.{Sync, Pixel, Sound, Leave}
 use Rattle.uz_schedule.specs.declared.lines.Schedule.{Schedule}
@@ -32,12 +35,15 @@ use Rattle.uz_transfer.specs.declared.step.Step.{Step}
 use Rattle.uz_transfer.specs.Exits.{each_exit}
 use Rattle.uz_transfer.specs.Kinds.{is_main}
 use Rattle.uz_transfer.specs.Refusals.{refuse_if}
+use Rattle.uz_transfer.specs.Narrowed.{narrowed}
 use Rattle.uz_transfer.specs.Step.{IsReadAt, step_of_row, successor}
+use Rattle.uz_transfer.specs.declared.step.Test.TheVariants as asks
 use Rattle.uz_rules.specs.EdgeRule.{position_of, is_kind, is_event, is_quiet, emits_as_scheduled, edges_fit}
 use Rattle.uz_rules.specs.Inside.{cells_inside, restored}
 use Rattle.uz_rules.specs.Local.{first_exit, is_no_opcode, rest_in, return_fail, row_emits_in_main, end_of, has_successors}
-use Rattle.uz_rules.specs.Local.{compares_edges, result_fail, step_fail, local_fail, IsLocal}
+use Rattle.uz_rules.specs.Local.{compares_edges, passes, result_fail, step_fail, local_fail, IsLocal}
 use Rattle.uz_rules.specs.Successors.{lies_in_any, lies_in_point, LiesInPoint}
+use Rattle.uz_rules.proofs.AskedLaws.{row_unasked}
 use Rattle.uz_check.specs.Acceptance.{Accepts}
 use Rattle.uz_check.specs.ByPosition.{AreScanlines, position, event_by_position, level_by_position, LiesByPosition}
 use Rattle.uz_check.specs.ByPosition.{instance_by_level, instance_by_point, instance_by_position}
@@ -230,35 +236,42 @@ module _ (cert : Cert) (fits : ScheduleFits cert.schedule) (h : AreScanlines cer
       (both_true (restored end) _ told.restored told.cells) refl) in
       here ∙ sym (ap (λ r. return_fail r end) told.there)
 
-  leads_told : LiesInPoint → (next : List ℕ) (at : Instance) (step : Step) (back : Bool) → step.back ≡ back
-      → None ≡ result_fail cert next at step → LeadsByPosition cert next at step
-  leads_told laws next at step true is e = record {
+  -- where nothing is asked, nothing is narrowed, and a point without a register of a cover covers nothing by its values
+  plain : (next : List ℕ) (at : Instance) (step : Step) (exit : Exit) → step.test ≡ asks.Nothing
+      → passes cert next None (narrowed step.test exit (successor (order_of cert.schedule) at step exit))
+      ≡ lies_in_any cert next (successor (order_of cert.schedule) at step exit)
+  plain next at step exit none =
+      ap (λ t. passes cert next None (narrowed t exit (successor (order_of cert.schedule) at step exit))) none ∙ or-false _
+
+  leads_told : LiesInPoint → (next : List ℕ) (at : Instance) (step : Step) (back : Bool) → step.test ≡ asks.Nothing → step.back ≡ back
+      → None ≡ result_fail cert next None at step → LeadsByPosition cert next at step
+  leads_told laws next at step true none is e = record {
     back = λ _. subst (ReturnsAtRest cert) (result_is at step (first_exit step.exits.items))
         (return_told (rest_in cert.rests (end_of cert at step).line) (end_of cert at step) refl (rw is at e));
     forth = λ other. absurd (cc (is, other));
   }
-  leads_told laws next at step false is e =
-      let test = unrefused (not (has_successors cert next at step)) fail.Successor None (rw is at e) in
+  leads_told laws next at step false none is e =
+      let test = unrefused (not (has_successors cert next None at step)) fail.Successor None (rw is at e) in
       record {
         back = λ other. absurd (cc (is, other));
-        forth = λ _ exit has. subst (LiesInOne cert next) (result_is at step exit) (named_told laws next _
-            (each_tells (λ x. lies_in_any cert next (successor (order_of cert.schedule) at step x)) step.exits.items exit
-            (not_false _ test.0) has));
+        forth = λ _ exit has. subst (LiesInOne cert next) (result_is at step exit) (named_told laws next _ (sym (plain next at step exit none)
+            ∙ each_tells (λ x. passes cert next None (narrowed step.test x (successor (order_of cert.schedule) at step x))) step.exits.items
+            exit (not_false _ test.0) has));
       }
 
-  leads_back : LiesInPoint → (next : List ℕ) (at : Instance) (step : Step) (back : Bool) → step.back ≡ back
-      → LeadsByPosition cert next at step → None ≡ result_fail cert next at step
-  leads_back laws next at step true is told =
+  leads_back : LiesInPoint → (next : List ℕ) (at : Instance) (step : Step) (back : Bool) → step.test ≡ asks.Nothing → step.back ≡ back
+      → LeadsByPosition cert next at step → None ≡ result_fail cert next None at step
+  leads_back laws next at step true none is told =
       let end = end_of cert at step in
       let returns : ReturnsAtRest cert end =
       subst (ReturnsAtRest cert) (sym (result_is at step (first_exit step.exits.items))) (told.back is) in
       rw is (return_back end returns)
-  leads_back laws next at step false is told =
-      let all : has_successors cert next at step ≡ true =
-      each_all (λ x. lies_in_any cert next (successor (order_of cert.schedule) at step x)) step.exits.items
+  leads_back laws next at step false none is told =
+      let all : has_successors cert next None at step ≡ true =
+      each_all (λ x. passes cert next None (narrowed step.test x (successor (order_of cert.schedule) at step x))) step.exits.items
       (λ exit has. let one = subst (LiesInOne cert next) (sym (result_is at step exit)) (told.forth is exit has) in
-      named_back laws next _ one.id one.named one.lies) in
-      rw is (passed (has_successors cert next at step) fail.Successor None all refl)
+      plain next at step exit none ∙ named_back laws next _ one.id one.named one.lies) in
+      rw is (passed (has_successors cert next None at step) fail.Successor None all refl)
 
 -- Instances of points of which OCR1A and TEMP are left out
 
@@ -308,18 +321,18 @@ ok_step : (a b : Step) → ◌≡◌ {A = Result Step Fail} (Ok a) (Ok b) → a 
 ok_step a b h = cc
 
 -- an instance that isn't refused has a step, which passes
-record Passed (image : FinMap nat_cmp ℕ) (cert : Cert) (next : List ℕ) (row : Instr) (at : Instance) : Type 0 where
+record Passed (image : FinMap nat_cmp ℕ) (cert : Cert) (next : List ℕ) (split : Option ℕ) (row : Instr) (at : Instance) : Type 0 where
   step : Step
   steps : step_of_row cert.head (order_of cert.schedule) image (Some row) at ≡ Ok step
   unseen : row_emits_in_main (Some row) at ≡ false
   edges : compares_edges cert at step ≡ true
-  leads : None ≡ result_fail cert next at step
+  leads : None ≡ result_fail cert next split at step
 
-step_passed : (image : FinMap nat_cmp ℕ) (cert : Cert) (next : List ℕ) (row : Instr) (at : Instance) (r : Result Step Fail)
-    → step_of_row cert.head (order_of cert.schedule) image (Some row) at ≡ r
-    → None ≡ step_fail cert next at (row_emits_in_main (Some row) at) r → Passed image cert next row at
-step_passed image cert next row at (Err why) is e = absurd cc
-step_passed image cert next row at (Ok step) is e =
+step_passed : (image : FinMap nat_cmp ℕ) (cert : Cert) (next : List ℕ) (split : Option ℕ) (row : Instr) (at : Instance)
+    (r : Result Step Fail) → step_of_row cert.head (order_of cert.schedule) image (Some row) at ≡ r
+    → None ≡ step_fail cert next split at (row_emits_in_main (Some row) at) r → Passed image cert next split row at
+step_passed image cert next split row at (Err why) is e = absurd cc
+step_passed image cert next split row at (Ok step) is e =
     let first = unrefused (row_emits_in_main (Some row) at) fail.Edge _ e in
     let second = unrefused (not (compares_edges cert at step)) fail.Edge _ first.1 in
     record { step = step; steps = is; unseen = first.0; edges = not_false _ second.0; leads = second.1 }
@@ -331,14 +344,28 @@ module _ (laws : LiesInPoint) (image : FinMap nat_cmp ℕ) (cert : Cert) (formed
   order : order_of cert.schedule ≡ uniform (length cert.schedule.lines)
   order = order_is cert.schedule old.lengths
 
+  -- by the rules of version 2 no point has a register of a cover
+  without_split : (version : RuleVersion) (kind : Kind) (p : Point) → version ≡ Two → RulesFit version kind p → p.split ≡ None
+  without_split Two kind p is rules = rules.1
+  without_split Three kind p is rules = absurd cc
+
+  unsplit : (id : ℕ) (p : Point) → slice_get cert.points id ≡ Some p → p.split ≡ None
+  unsplit id p found =
+      let lines = length cert.schedule.lines in
+      let points = length cert.points in
+      let point : PointFits cert.head lines points p =
+      subst (PointFits cert.head lines points) (get_or_from_slice_get cert.points id p p found)
+      (All-get_or (PointFits cert.head lines points) cert.points id p (slice_get_within cert.points id p found) formed.points.each) in
+      without_split cert.head.version p.kind p old.version point.rules
+
   point_told : (id l c : ℕ) (point : Point) (row : Option Instr) (at : Option Instance) → IsReadAt image point.pc row
-      → instance_at cert id l c ≡ at → None ≡ local_fail image cert point.next.items row at → PassesByPosition image cert id l c point
+      → instance_at cert id l c ≡ at → None ≡ local_fail image cert point.next.items None row at → PassesByPosition image cert id l c point
   point_told id l c point None at reads is e = absurd cc
   point_told id l c point (Some row) None reads is e =
       absurd (cc (unrefused (is_no_opcode (Some row)) fail.Opcode _ e).1)
   point_told id l c point (Some row) (Some at) reads is e =
       let first = unrefused (is_no_opcode (Some row)) fail.Opcode _ e in
-      let own = step_passed image cert point.next.items row at (step_of_row cert.head (order_of cert.schedule) image (Some row) at) refl
+      let own = step_passed image cert point.next.items None row at (step_of_row cert.head (order_of cert.schedule) image (Some row) at) refl
       first.1 in
       let there : instance_by_position cert id l c ≡ Some at = sym (instance_is cert id l c fits old.lengths) ∙ is in
       let timer = untimed cert old.points id l c at there in
@@ -356,7 +383,8 @@ module _ (laws : LiesInPoint) (image : FinMap nat_cmp ℕ) (cert : Cert) (formed
         emits = λ apart exit has. emits_told cert fits old.lengths at own.step.emit exit
             (each_tells (λ x. emits_as_scheduled cert.schedule (position_of cert.schedule at) own.step.emit x.clocks)
             own.step.exits.items exit (other_edges at own.step own.edges (apart_main at.kind apart)) has);
-        leads = leads_told cert fits old.lengths laws point.next.items at own.step own.step.back refl own.leads;
+        leads = leads_told cert fits old.lengths laws point.next.items at own.step own.step.back
+            (row_unasked cert.head (order_of cert.schedule) image (Some row) at own.step old.version own.steps) refl own.leads;
       }
     where
       other_edges : (at : Instance) (step : Step) → compares_edges cert at step ≡ true → is_main at.kind ≡ false
@@ -371,19 +399,22 @@ module _ (laws : LiesInPoint) (image : FinMap nat_cmp ℕ) (cert : Cert) (formed
       let there : instance_at cert id l c ≡ Some at = instance_is cert id l c fits old.lengths ∙ told.is in
       let steps : step_of_row cert.head (order_of cert.schedule) image (Some told.row) at ≡ Ok step =
       ap (λ lines. step_of_row cert.head lines image (Some told.row) at) order ∙ told.steps in
-      let rest : None ≡ step_fail cert point.next.items at (row_emits_in_main (Some told.row) at) (Ok step) =
+      let rest : None ≡ step_fail cert point.next.items None at (row_emits_in_main (Some told.row) at) (Ok step) =
       free (row_emits_in_main (Some told.row) at) fail.Edge _ told.unseen
       (passed (compares_edges cert at step) fail.Edge _ (edges (main_or at.kind))
-      (leads_back cert fits old.lengths laws point.next.items at step step.back refl told.leads)) in
-      let local : None ≡ local_fail image cert point.next.items (Some told.row) (Some at) =
+      (leads_back cert fits old.lengths laws point.next.items at step step.back
+      (row_unasked cert.head (order_of cert.schedule) image (Some told.row) at step old.version steps) refl told.leads)) in
+      let local : None ≡ local_fail image cert point.next.items None (Some told.row) (Some at) =
       free (is_no_opcode (Some told.row)) fail.Opcode _ told.runs
-      (rest ∙ sym (ap (step_fail cert point.next.items at (row_emits_in_main (Some told.row) at)) steps)) in
+      (rest ∙ sym (ap (step_fail cert point.next.items None at (row_emits_in_main (Some told.row) at)) steps)) in
       record {
         point = point;
         is_point = is_point;
         row = Some told.row;
         reads = told.reads;
-        is = local ∙ sym (ap (local_fail image cert point.next.items (Some told.row)) there);
+        is = local ∙ (sym (ap (local_fail image cert point.next.items None (Some told.row)) there)
+            ∙ ap (λ split. local_fail image cert point.next.items split (Some told.row) (instance_at cert id l c))
+            (sym (unsplit id point is_point)));
       }
     where
       edges : (told.at.kind ≡ Main) ⊎ (told.at.kind ≢ Main) → compares_edges cert told.at told.step ≡ true
@@ -407,7 +438,9 @@ module _ (laws : LiesInPoint) (image : FinMap nat_cmp ℕ) (cert : Cert) (formed
           → PassesByPosition image cert id l c point
       by_local id l c point there local =
           subst (PassesByPosition image cert id l c) (some_point local.point point (sym local.is_point ∙ there))
-          (point_told id l c local.point local.row (instance_at cert id l c) local.reads refl local.is)
+          (point_told id l c local.point local.row (instance_at cert id l c) local.reads refl (local.is
+          ∙ ap (λ split. local_fail image cert local.point.next.items split local.row (instance_at cert id l c))
+          (unsplit id local.point local.is_point)))
 
   pub accepts_back : AcceptsOld image cert → Accepts image cert
   accepts_back told = record {

@@ -1,5 +1,5 @@
 -- What the induction takes: what acceptance gives of each instance, of each rest and of the entry, and the laws of the rules.
-use Rattle.std.specs.Prelude.{◌≡◌, Contains, ℕ, ◌+◌, ◌%◌, ◌<◌, ◌≤◌, Bool, true, false, Some, None, Ok}
+use Rattle.std.specs.Prelude.{◌≡◌, Contains, ℕ, ◌+◌, ◌%◌, ◌<◌, ◌≤◌, Bool, true, false, List, Option, Some, None, Ok}
 use Rattle.std.specs.Ordering.{nat_cmp}
 use Rattle.std.specs.FinMap.{FinMap}
 use Rattle.uz_hex.specs.Cells.{word_of}
@@ -16,7 +16,10 @@ use Rattle.uz_transfer.specs.declared.step.Exit.{Exit}
 use Rattle.uz_transfer.specs.declared.step.Step.{Step}
 use Rattle.uz_rules.specs.Inside.{inside, cells_inside, restored, StateInside}
 use Rattle.uz_rules.specs.Successors.{LiesInPoint}
+use Rattle.uz_rules.specs.CoverMeets.{CoverMeets}
+use Rattle.uz_rules.specs.Local.{passes}
 use Rattle.uz_rules.specs.Events.{shown_at, listed}
+use Rattle.uz_transfer.specs.Narrowed.{narrowed}
 use Rattle.uz_transfer.specs.Step.{IsStep, successor}
 use Rattle.uz_rules.specs.OneStep.{AloneContained, HandlerContained, MainContained}
 use Rattle.uz_transfer.specs.Emission.{main_emits}
@@ -58,16 +61,20 @@ EdgeHolds image cert Alone inst step =
     (exit : Exit) (k : ℕ) → Contains step.exits.items exit → 1 ≤ exit.clocks
     → scheduled (event_at cert.schedule) (position_of cert.schedule inst) k exit.clocks ≡ listed (shown_at step.emit (k + exit.clocks))
 
-abbrev pub Succeeds : Cert → Instance → Step → Bool → Type 0
-Succeeds cert inst step false = (exit : Exit) → Contains step.exits.items exit → IsCovered cert
-    (successor (order_of cert.schedule) inst step exit)
-Succeeds cert inst step true = Returns cert inst step
+-- what is left at each exit passes, or the handler returns
+abbrev pub Succeeds : Cert → List ℕ → Option ℕ → Instance → Step → Bool → Type 0
+Succeeds cert next split inst step false = (exit : Exit) → Contains step.exits.items exit
+    → passes cert next split (narrowed step.test exit (successor (order_of cert.schedule) inst step exit)) ≡ true
+Succeeds cert next split inst step true = Returns cert inst step
 
 pub record LocalHolds (image : FinMap nat_cmp ℕ) (cert : Cert) (inst : Instance) : Type 0 where
   pub step : Step
   pub step_is : IsStep cert.head (order_of cert.schedule) image inst (Ok step)
   pub edge : EdgeHolds image cert inst.kind inst step
-  pub successor : Succeeds cert inst step step.back
+  -- the point's named successors, and the register of its cover
+  pub next : List ℕ
+  pub split : Option ℕ
+  pub successor : Succeeds cert next split inst step step.back
 
 -- What the rules of a rest give
 
@@ -86,6 +93,7 @@ pub record RuleLaws : Type 0 where
   pub main : MainContained
   pub inside : StateInside
   pub lies : LiesInPoint
+  pub cover : CoverMeets
 
 -- What makes every run keep to the schedule
 pub record Premises (image : FinMap nat_cmp ℕ) (cert : Cert) : Type 0 where

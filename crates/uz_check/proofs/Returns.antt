@@ -1,6 +1,6 @@
 -- What the abstract step of RETI is.
 use Rattle.std.proofs.Common.{◌≡◌, ℕ, suc, ◌+◌, ◌%◌, Bool, true, false, [], ◌∷◌, refl, sym, ◌∙◌, ap, subst}
-use Rattle.std.specs.Prelude.{Option, Some, None, Ok, not, ◌&&◌}
+use Rattle.std.specs.Prelude.{if◌then◌else◌, Option, Some, None, Ok, not, ◌&&◌}
 use Rattle.std.proofs.lemmas.Bool.{eqb-true}
 use Rattle.std.specs.Ordering.{nat_cmp}
 use Rattle.std.specs.FinMap.{FinMap}
@@ -12,6 +12,7 @@ use Rattle.avr_decode.specs.Decoded.{Decoded}
 use Rattle.avr_decode.proofs.Unique.{unique}
 use Rattle.uz_core.specs.Core.{returns_from_interrupt}
 use Rattle.uz_core.specs.Effects.{effect_of}
+use Rattle.uz_schedule.specs.declared.facts.Compared.TheVariants.{Nothing}
 use Rattle.uz_schedule.specs.declared.kinds.Kind.{Kind}
 use Rattle.uz_schedule.specs.declared.kinds.Kind.TheVariants.{Main, Handler, Alone}
 use Rattle.uz_schedule.specs.declared.header.Head.{Head}
@@ -21,6 +22,7 @@ use Rattle.uz_schedule.specs.declared.states.Instance.{Instance}
 use Rattle.uz_schedule.specs.Lines.{Lines, line_after}
 use Rattle.uz_transfer.specs.declared.fail.Fail.{Fail}
 use Rattle.uz_transfer.specs.declared.fail.Fail.TheVariants as fail
+use Rattle.uz_transfer.specs.Compared.{knows_comparisons, with_compared}
 use Rattle.uz_transfer.specs.Kinds.{is_handler}
 use Rattle.uz_transfer.specs.Refusals.{refuse_if}
 use Rattle.uz_transfer.specs.declared.step.Exit.{Exit}
@@ -66,7 +68,7 @@ return_time lines inst kind e =
 -- the step is that of RETI, with a leave
 pub record IsReturn (lines : Lines) (image : FinMap nat_cmp ℕ) (inst : Instance) (step : Step) : Type 0 where
   pub reads : Reads (word_of image (inst.pc % 32768)) (word_of image ((inst.pc + 1) % 32768)) Reti
-  pub draft : step.draft ≡ inst
+  pub draft : step.draft ≡ with_compared Nothing inst
   pub exits : step.exits.items ≡ return_exit inst ∷ []
   pub emits : step.emit ≡ Some Leave
   pub clears : step.clears ≡ false
@@ -91,6 +93,10 @@ pub handler_returns : (head : Head) (lines : Lines) (image : FinMap nat_cmp ℕ)
     (Ok step) → step.back ≡ true → inst.kind ≡ Handler
 handler_returns head lines image inst step h back = row_handler head lines image inst step h.row h.is back
 
+nothing_told : (t : Bool) → (if t then Nothing else Nothing) ≡ Nothing
+nothing_told true = refl
+nothing_told false = refl
+
 row_back : (head : Head) (lines : Lines) (image : FinMap nat_cmp ℕ) (inst : Instance) (step : Step) (row : Option Instr)
     → Decoded (word_of image (inst.pc % 32768)) (word_of image ((inst.pc + 1) % 32768)) row → Ok step ≡ step_of_row head lines image row
     inst → step.back ≡ true → IsReturn lines image inst step
@@ -108,7 +114,7 @@ row_back head lines image inst step (Some i) reads e back =
         let event : t.event ≡ Some Leave = cc t.emits in
         record {
           reads = subst (λ k. Reads (word_of image (inst.pc % 32768)) (word_of image ((inst.pc + 1) % 32768)) k) is read;
-          draft = ap (λ (x : Step). x.draft) t.is;
+          draft = ap (λ (x : Step). x.draft) t.is ∙ ap (λ c. with_compared c inst) (nothing_told (knows_comparisons head inst.kind));
           exits = ap (λ (x : Step). x.exits.items) t.is;
           emits = ap (λ (x : Step). x.emit) t.is ∙ event;
           clears = ap (λ (x : Step). x.clears) t.is;

@@ -12,8 +12,10 @@ use Rattle.avr_table.specs.declared.Outcome.TheVariants.{Taken}
 use Rattle.avr_table.specs.Rows.{words_of, clocks_of}
 use Rattle.uz_core.specs.declared.machine.AddressMode.{AddressMode}
 use Rattle.uz_core.specs.declared.machine.AddressMode.TheVariants.{Direct, Displacement, PostIncrement, PreDecrement}
+use Rattle.uz_core.specs.declared.machine.BinaryOp.{BinaryOp}
 use Rattle.uz_core.specs.declared.machine.BinaryOp.TheVariants as binary
 use Rattle.uz_core.specs.declared.machine.UnaryOp.TheVariants as unary
+use Rattle.uz_core.specs.declared.machine.Operand.{Operand}
 use Rattle.uz_core.specs.declared.machine.Operand.TheVariants.{Register, Constant}
 use Rattle.uz_core.specs.declared.machine.SkipTest.TheVariants.{Equal, RegisterBit, IoBit}
 use Rattle.uz_core.specs.declared.machine.JumpTarget.TheVariants.{Absolute, Relative, Indirect}
@@ -25,6 +27,8 @@ use Rattle.uz_core.specs.Effects.{effect_of}
 use Rattle.uz_core.proofs.RowClocks.{stops, clocks_within}
 use Rattle.uz_schedule.specs.Ends.{Ends}
 use Rattle.uz_schedule.specs.Lines.{Lines, line_after, clock_after}
+use Rattle.uz_schedule.specs.declared.facts.Compared.{Compared}
+use Rattle.uz_schedule.specs.declared.facts.Compared.TheVariants.{Nothing}
 use Rattle.uz_schedule.specs.declared.facts.Val.{Val}
 use Rattle.uz_schedule.specs.declared.header.Head.{Head}
 use Rattle.uz_schedule.specs.declared.lines.EventKind.{EventKind}
@@ -33,6 +37,9 @@ use Rattle.uz_range.specs.Answers.{is_single}
 use Rattle.uz_transfer.specs.declared.fail.Fail.{Fail}
 use Rattle.uz_transfer.specs.declared.step.Exit.{Exit}
 use Rattle.uz_transfer.specs.declared.step.Step.{Step}
+use Rattle.uz_transfer.specs.declared.step.Test.{Test}
+use Rattle.uz_transfer.specs.Narrowed.{test_of}
+use Rattle.uz_transfer.specs.Compared.{past_pointer, may_be_sreg, told_by, told_after, knows_comparisons, compared_after, with_compared}
 use Rattle.uz_transfer.specs.Values.{span_of, value_at, with_flag_list}
 use Rattle.uz_transfer.specs.Kinds.{cell_place, is_main, is_handler}
 use Rattle.uz_transfer.specs.Memory.{address_range, with_pointer_range, flags_from, with_cell, stored_in}
@@ -203,6 +210,32 @@ temp_moves sampled (Store to r) m inst =
     ap (λ b. if b then span_of (value_at inst.regs r) else inst.temp) (handler_stores_move 0x89 to m inst)
 temp_moves sampled e m inst = refl
 
+-- What the flags tell after it
+
+binary_told_moves : (op : BinaryOp) (d : ℕ) (source : Operand) (compare : Bool) (m : ℕ) (inst : Instance)
+    → told_by op d source compare (at_line m inst) ≡ told_by op d source compare inst
+binary_told_moves (binary.Subtract false) d (Register r) true m inst = refl
+binary_told_moves (binary.Subtract false) d (Register r) false m inst = refl
+binary_told_moves (binary.Subtract false) d (Constant k) true m inst = refl
+binary_told_moves (binary.Subtract false) d (Constant k) false m inst = refl
+binary_told_moves (binary.Subtract true) d (Register r) true m inst = refl
+binary_told_moves (binary.Subtract true) d (Register r) false m inst = refl
+binary_told_moves (binary.Subtract true) d (Constant k) true m inst = refl
+binary_told_moves (binary.Subtract true) d (Constant k) false m inst = refl
+binary_told_moves op d source true m inst = refl
+binary_told_moves op d source false m inst = refl
+
+told_moves : (e : Effect) (m : ℕ) (inst : Instance) → told_after e (at_line m inst) ≡ told_after e inst
+told_moves (Binary op d source compare) m inst = binary_told_moves op d source compare m inst
+told_moves (Store to r) m inst =
+    ap (λ a. if may_be_sreg a then Nothing else past_pointer to inst.compared) (address_moves to m inst)
+told_moves (Jump target true) m inst = refl
+told_moves (Jump target false) m inst = refl
+told_moves e m inst = refl
+
+compared_moves : (head : Head) (e : Effect) (m : ℕ) (inst : Instance) → compared_after head e (at_line m inst) ≡ compared_after head e inst
+compared_moves head e m inst = ap (λ c. if knows_comparisons head inst.kind then c else Nothing) (told_moves e m inst)
+
 -- lines l and m have one length, and so have those that follow them
 pub record LengthsAlike (lines : Lines) (l m : ℕ) : Type 0 where
   pub own : lines.length m ≡ lines.length l
@@ -268,14 +301,15 @@ unless_moves None None in_time m step = refl
 unless_moves None (Some event) false m step = refl
 unless_moves None (Some event) true m step = refl
 
-abbrev drafted : Instance → ℕ → Ends → List Exit → Bool → Bool → Step
-drafted draft top temp exits back clears =
+abbrev drafted : Instance → ℕ → Ends → Compared → List Exit → Bool → Bool → Test → Step
+drafted draft top temp compared exits back clears asks =
     record {
-      draft = with_timer top temp draft;
+      draft = with_compared compared (with_timer top temp draft);
       exits = record { items = exits };
       emit = None;
       back = back;
       clears = clears;
+      test = asks;
     }
 
 step_moves : (head : Head) (lines : Lines) (image : FinMap nat_cmp ℕ) (e : Effect) (words : ℕ) (clocks : Outcome → ℕ) (m : ℕ) (inst : Instance)
@@ -297,10 +331,11 @@ step_moves head lines image e words clocks m inst h =
     ap (λ k. transfer head image next k e now) same ∙ transfer_moves head image next here e m inst in
     let temp : temp_after there e now ≡ temp_after here e inst = ap (λ k. temp_after k e now) same ∙ temp_moves here e m inst in
     (λ i. step_unless (fail_moves head e m inst i) (emission_moves e m inst i) (time i)
-    (drafted (draft i) (top_moves e m inst i) (temp i) (exits i) back (clears_moves e m inst i)))
+    (drafted (draft i) (top_moves e m inst i) (temp i) (compared_moves head e m inst i) (exits i) back (clears_moves e m inst i)
+    (test_of head e inst)))
     ∙ unless_moves (fail_of head e inst) (emission e inst) (clock_holds lines e inst (exits_of e clocks next inst (outcomes image next e inst))) m
-    (drafted (transfer head image next here e inst) (top_after e inst) (temp_after here e inst)
-    (exits_of e clocks next inst (outcomes image next e inst)) back (clears_flag e inst))
+    (drafted (transfer head image next here e inst) (top_after e inst) (temp_after here e inst) (compared_after head e inst)
+    (exits_of e clocks next inst (outcomes image next e inst)) back (clears_flag e inst) (test_of head e inst))
 
 -- the step of an instance that is moved to another line is its step, moved
 pub row_moves : (head : Head) (lines : Lines) (image : FinMap nat_cmp ℕ) (row : Option Instr) (m : ℕ) (inst : Instance)
@@ -386,7 +421,7 @@ few_row head lines image i inst h =
     let here = sampled_of (lines.length inst.line) e (clocks_of i) inst in
     let exits = exits_of e (clocks_of i) next inst (outcomes image next e inst) in
     few_unless (fail_of head e inst) (emission e inst) (clock_holds lines e inst exits)
-    (drafted (transfer head image next here e inst) (top_after e inst) (temp_after here e inst) exits (returns_from_interrupt e)
-    (clears_flag e inst))
+    (drafted (transfer head image next here e inst) (top_after e inst) (temp_after here e inst) (compared_after head e inst) exits
+    (returns_from_interrupt e) (clears_flag e inst) (test_of head e inst))
     (few_exits e (clocks_of i) next inst (outcomes image next e inst) (λ o. low_of (stops e) (clocks_of i o) (sym (same_stops e) ∙ h)
     (clocks_within i o)))

@@ -12,6 +12,7 @@ use Rattle.uz_schedule.specs.Schedule.{scanline}
 use Rattle.uz_schedule.specs.WellFormed.{IsTimerLeftOut}
 use Rattle.uz_schedule.specs.declared.certificate.Cert.{Cert}
 use Rattle.uz_schedule.specs.declared.kinds.Kind.TheVariants.{Main}
+use Rattle.uz_schedule.specs.declared.kinds.RuleVersion.TheVariants.{Two}
 use Rattle.uz_schedule.specs.declared.lines.EventKind.{EventKind}
 use Rattle.uz_schedule.specs.declared.lines.Schedule.{Schedule}
 use Rattle.uz_schedule.specs.declared.states.Instance.{Instance}
@@ -25,8 +26,10 @@ use Rattle.uz_rules.specs.Local.{first_exit, is_stop, rest_in, row_emits_in_main
 use Rattle.uz_check.specs.Steady.{IsSteady}
 use Rattle.uz_check.specs.ByPosition.{position, event_by_position, instance_by_position, LiesByPosition, RestByPosition, EntryByPosition}
 
--- What a text of version 1 can say: each kind of line has the clocks of a scanline, and of no point OCR1A or TEMP is said
+-- What a text of version 1 can say: each kind of line has the clocks of a scanline, of no point OCR1A or TEMP is said, and the rules are
+-- those of version 2, which know nothing of comparisons
 pub record IsOld (cert : Cert) : Type 0 where
+  pub version : cert.head.version ≡ Two
   pub lengths : All (λ n. n ≡ scanline) cert.schedule.lengths
   pub points : All IsTimerLeftOut cert.points
 

@@ -22,7 +22,8 @@ ghost use Rattle.uz_check.specs.Steady.{IsSteady};
 ghost use Rattle.uz_check.specs.Ways.{EveryTurnGoes, MainsTimeHolds};
 
 use uz_rules::{
-    alone_contained, handler_contained, lies_in_point_tells, main_contained, state_inside,
+    alone_contained, cover_meets, handler_contained, lies_in_point_tells, main_contained,
+    state_inside,
 };
 
 /// What is accepted is certified: every run from a state that meets the entry condition keeps to the schedule. The entry
@@ -44,6 +45,7 @@ pub fn soundness()
     main_contained();
     state_inside();
     lies_in_point_tells();
+    cover_meets();
 }
 
 /// The claim is never empty: whatever the flash image, and whatever the well formed certificate whose schedule is steady and
