@@ -42,6 +42,7 @@ fn read_text(alloc: Global, version: Version, text: &[u8]) -> std::result::Resul
     match version {
         Version::First => read_cert_1(alloc, text),
         Version::Second => read_cert(alloc, text),
+        Version::Third => read_cert(alloc, text),
     }
 }
 

@@ -6,7 +6,7 @@ use Rattle.uz_schedule.specs.Schedule.{scanline}
 use Rattle.uz_schedule.specs.WellFormed.{WellFormed}
 use Rattle.uz_schedule.specs.declared.certificate.Cert.{Cert}
 use Rattle.uz_schedule.specs.declared.states.Entry.{Entry}
-use Rattle.uz_cert_lines.specs.Lines.{head_line}
+use Rattle.uz_cert_lines.specs.Lines.{head_line, rules_of}
 use Rattle.uz_cert_lines.specs.declared.lines.ParsedLine.{ParsedLine}
 use Rattle.uz_cert_lines.specs.declared.lines.ParsedLine.TheVariants as parsed
 use Rattle.uz_cert_lines.specs.declared.version.Version.{Version}
@@ -63,7 +63,7 @@ with_entry : (d : Draft) (o : Option Entry) (c : Cert) → Kept d → expected_l
 with_entry d None c k expected is e = absurd cc
 with_entry d (Some x) c k expected is e =
     subst (FitsIn d.version) (same_cert (cert_from d x) c e)
-    (whole_fits d x k expected is, record { lengths = k.schedule.1.own; points = k.states.2.own })
+    (whole_fits d x k expected is, record { rules = k.rules; lengths = k.schedule.1.own; points = k.states.2.own })
 
 before_fits : (d : Draft) (line : List ℕ) (rest : List (List ℕ)) (c : Cert) → Kept d → expected_line d ≡ None → cert_before d line rest ≡ told c
     → FitsIn d.version c
@@ -104,3 +104,9 @@ pub gives_version : (l : LineSpelling) (version : Version) (text : List ℕ) (re
     → IfOk result (IsOfVersion version)
 gives_version l version text (Ok c) g = (text_fits l version text c g).1
 gives_version l version text (Err e) g = tt
+
+-- what is answered of a version has its rules
+pub version_rules : (version : Version) (result : Result Cert CertError) → IfOk result (IsOfVersion version)
+    → IfOk result (λ c. c.head.version ≡ rules_of version)
+version_rules version (Ok c) own = own.rules
+version_rules version (Err e) own = tt

@@ -1,5 +1,5 @@
 -- Each line that is within limits where it is due keeps what is read so far within limits.
-use Rattle.std.proofs.Common.{◌≡◌, ◌⊎◌, inl, inr, ℕ, zero, suc, ◌+◌, ◌-◌, ◌*◌, ◌<◌, ◌≤◌, Bool, true, false, ◌&&◌, eqb, leb, ltb, List}
+use Rattle.std.proofs.Common.{◌≡◌, ◌⊎◌, inl, inr, ℕ, zero, suc, ◌+◌, ◌-◌, ◌*◌, ◌<◌, ◌≤◌, Bool, true, false, ◌&&◌, eqb, ltb, List}
 use Rattle.std.proofs.Common.{[], ◌∷◌, ◌++◌, length, map, replicate, All, refl, sym, ◌∙◌, ap, subst, arith, length-append}
 use Rattle.std.specs.Prelude.{Option, Some, None, IfSome, sum_by}
 use Rattle.std.proofs.lemmas.Bool.{le-leb, eqb-true, eqb-false}
@@ -22,13 +22,13 @@ use Rattle.uz_cert_lines.specs.declared.lines.ParsedLine.{ParsedLine}
 use Rattle.uz_cert_lines.specs.declared.lines.KindLine.{KindLine}
 use Rattle.uz_cert_lines.specs.declared.lines.ParsedLine.TheVariants as parsed
 use Rattle.uz_cert_lines.specs.declared.version.Version.{Version}
-use Rattle.uz_cert_lines.specs.declared.version.Version.TheVariants.{First, Second}
+use Rattle.uz_cert_lines.specs.declared.version.Version.TheVariants.{First, Second, Third}
 use Rattle.uz_cert_laws.proofs.Tests.{and_true, both_true, true_not}
 use Rattle.uz_cert.specs.Drafts.{first_draft, lacks, expected_line, with_said, draft_after}
 use Rattle.uz_cert.specs.SaidLines.{expected_as}
 use Rattle.uz_cert.specs.declared.expected_line.ExpectedLine.TheVariants as expected
 use Rattle.uz_cert.proofs.ExpectedLineLaws.{IsExpected, is_expected}
-use Rattle.uz_cert_lines.specs.Lines.{SizesFit, IsLengthIn, IsPointIn}
+use Rattle.uz_cert_lines.specs.Lines.{SizesFit, IsLengthIn, IsPointIn, rules_of}
 use Rattle.uz_cert_lines.proofs.Lengths.{length_few}
 use Rattle.uz_cert_laws.specs.LineWords.{least_after}
 use Rattle.uz_cert_laws.proofs.GrowingFacts.{rises_more, after_more}
@@ -74,10 +74,12 @@ lengths_push (es ∷ kinds) (m ∷ lengths) events n h l b =
 pub length_in : (version : Version) (n : ℕ) → IsLengthIn version n → is_length n ≡ true
 length_in First n h = subst (λ m. is_length m ≡ true) (sym h) refl
 length_in Second n h = h
+length_in Third n h = h
 
 pub scanline_in : (version : Version) → IsLengthIn version scanline
 scanline_in First = refl
 scanline_in Second = refl
+scanline_in Third = refl
 
 -- lines of one kind more
 
@@ -146,6 +148,7 @@ first_kept version =
     let d = first_draft version in
     record {
       begun = omega arith;
+      rules = refl;
       sizes = record {
         kinds_some = omega arith;
         kinds_few = omega arith;
@@ -199,10 +202,11 @@ not_both a b h g = omega (arith, h, g)
 
 -- one of the lines after the cells
 body_kept : (d e : Draft) → Kept d → IsAfterCells d → e.read ≡ d.read + 1 → e.sizes ≡ d.sizes → e.head ≡ d.head → e.cell_least ≡ d.cell_least
-    → ScheduleKept e → StatesKept e → ((1 ≤ e.owed) ⊎ (length e.kinds < e.sizes.kinds) → e.fall ≡ 0) → LateLater e
+    → e.version ≡ d.version → ScheduleKept e → StatesKept e → ((1 ≤ e.owed) ⊎ (length e.kinds < e.sizes.kinds) → e.fall ≡ 0) → LateLater e
     → LastIs e.run_kind e.lines → Kept e
-body_kept d e k a r s h c schedule states fall late run = record {
+body_kept d e k a r s h c v schedule states fall late run = record {
   begun = omega (arith, r);
+  rules = ap (λ x. x.version) h ∙ (k.rules ∙ ap rules_of (sym v));
   sizes = subst SizesFit (sym s) k.sizes;
   stack = subst StackFits (sym h) k.stack;
   cells =
@@ -227,14 +231,16 @@ body_kept d e k a r s h c schedule states fall late run = record {
 
 -- one of the first three lines: they say sizes and head, and all else is still empty
 opening_kept : (d : Draft) (s : Sizes) (h : Head) → Kept d → d.read ≤ 3 → SizesFit s → StackFits h → h.cells.items ≡ d.head.cells.items
+    → h.version ≡ rules_of d.version
     → Kept (record d { read = d.read + 1; sizes = s; head = h })
-opening_kept d s h k o sizes stack same =
+opening_kept d s h k o sizes stack same rules =
     let l = k.later in
     let no = no_states_yet d k (inl o) in
     let cells = same ∙ l.cells o in
     let kinds = l.kinds (inl o) in
     record {
       begun = omega arith;
+      rules = rules;
       sizes = sizes;
       stack = stack;
       cells = record {
@@ -318,6 +324,7 @@ cell_kept d c k f =
     let h : Head = with_cell d.head c in
     record {
       begun = omega arith;
+      rules = k.rules;
       sizes = k.sizes;
       stack = same_stack d.head h refl refl refl refl k.stack;
       cells = cells_more d.head c d.sizes.cells d.cell_least k.cells f.room f.fits f.order;
@@ -342,7 +349,7 @@ kind_kept d n k a f =
     let none = events.present f.none_owed in
     let few = f.fits.few in
     let most = length_few n.clocks (length_in d.version n.clocks f.fits.clocks) in
-    body_kept d (draft_after d (parsed.Kind n)) k a refl refl refl refl (
+    body_kept d (draft_after d (parsed.Kind n)) k a refl refl refl refl refl (
       record {
         few = subst (λ es. length es + n.events ≤ most_events) (sym none) (omega (arith, few, most));
         each = events.each;
@@ -382,7 +389,7 @@ event_more d e k a f true is =
       events = [];
       event_least = 0;
     } in
-    let more : Kept next = body_kept d next k a refl refl refl refl (
+    let more : Kept next = body_kept d next k a refl refl refl refl refl (
       record {
         few = omega (arith, one);
         each = All-nil EventFits;
@@ -410,7 +417,7 @@ event_more d e k a f false is =
     let owing : 1 ≤ d.owed - 1 = omega (arith, eqb-false (d.owed - 1) 0 is) in
     let have = events.few in
     let next : Draft = record d { read = d.read + 1; owed = d.owed - 1; events = d.events ++ e ∷ []; event_least = e.clock + 1 } in
-    let more : Kept next = body_kept d next k a refl refl refl refl (
+    let more : Kept next = body_kept d next k a refl refl refl refl refl (
       record {
         few = simp length-append (omega (arith, f.owed, have));
         each = All-push EventFits d.events e events.each f.fits;
@@ -430,7 +437,7 @@ fall_kept : (d : Draft) (clock : ℕ) → Kept d → IsExpected d expected.Fall 
 unfolding draft_after
 fall_kept d clock k i some low =
     let l = k.later.late in
-    body_kept d (draft_after d (parsed.Fall clock)) k i.0 refl refl refl refl (k.schedule.0, k.schedule.1, low, k.schedule.3) k.states
+    body_kept d (draft_after d (parsed.Fall clock)) k i.0 refl refl refl refl refl (k.schedule.0, k.schedule.1, low, k.schedule.3) k.states
     (λ h. absurd (past h)) (λ e. absurd (omega (arith, e, some)), l.1, l.2, l.3, l.4) k.later.run
   where
     past : (1 ≤ d.owed) ⊎ (length d.kinds < d.sizes.kinds) → ⊥
@@ -442,7 +449,7 @@ run_kept : (d : Draft) (count kind : ℕ) → Kept d → IsExpected d expected.R
 unfolding draft_after
 run_kept d count kind k i f =
     let l = k.later in
-    body_kept d (draft_after d (parsed.Run (record { count = count; kind = kind }))) k i.0 refl refl refl refl (
+    body_kept d (draft_after d (parsed.Run (record { count = count; kind = kind }))) k i.0 refl refl refl refl refl (
       k.schedule.0,
       k.schedule.1,
       k.schedule.2,
@@ -470,7 +477,7 @@ unfolding draft_after
 rest_kept d r k i f =
     let rests = k.states.0 in
     let l = k.later in
-    body_kept d (draft_after d (parsed.Rest r)) k f.after refl refl refl refl k.schedule (
+    body_kept d (draft_after d (parsed.Rest r)) k f.after refl refl refl refl refl k.schedule (
       record {
         few = simp length-append (omega (arith, f.room));
         each = All-push (RestFits d.head d.sizes.lines d.sizes.points) d.rests r rests.each f.fits;
@@ -491,7 +498,7 @@ entry_kept : (d : Draft) (e : Entry) → Kept d → IsExpected d expected.Entry 
 unfolding draft_after
 entry_kept d e k i f =
     let l = k.later in
-    body_kept d (draft_after d (parsed.Entry e)) k f.after refl refl refl refl k.schedule (k.states.0, f.fits, k.states.2) (λ h. l.fall (inr h))
+    body_kept d (draft_after d (parsed.Entry e)) k f.after refl refl refl refl refl k.schedule (k.states.0, f.fits, k.states.2) (λ h. l.fall (inr h))
     (l.late.0, l.late.1, λ h. absurd (past h), λ g. absurd (cc g), l.late.4) l.run
   where
     past : (length d.lines < d.sizes.lines) ⊎ (length d.rests < d.sizes.rests) → ⊥
@@ -503,7 +510,7 @@ unfolding draft_after
 point_kept d p k i f =
     let points = k.states.2 in
     let l = k.later in
-    body_kept d (draft_after d (parsed.Point p)) k f.after refl refl refl refl k.schedule (
+    body_kept d (draft_after d (parsed.Point p)) k f.after refl refl refl refl refl k.schedule (
       k.states.0,
       k.states.1,
       record {
@@ -528,17 +535,17 @@ end_kept : (d : Draft) → Kept d → IsExpected d expected.End → Kept (draft_
 unfolding draft_after
 end_kept d k i =
     let l = k.later in
-    body_kept d (draft_after d parsed.End) k i.0.after refl refl refl refl k.schedule k.states (λ h. l.fall (inr h))
+    body_kept d (draft_after d parsed.End) k i.0.after refl refl refl refl refl k.schedule k.states (λ h. l.fall (inr h))
     (l.late.0, l.late.1, l.late.2, l.late.3, λ h. absurd (not_both d.sizes.points (length d.points) i.1 h)) l.run
 
 kept_where : (d : Draft) (s : ParsedLine) → Kept d → IsExpected d (expected_as s) → SaidFits d s → Kept (draft_after d s)
 unfolding draft_after
-kept_where d (parsed.Size s) k i f = opening_kept d s d.head k f.0 f.1 k.stack refl
+kept_where d (parsed.Size s) k i f = opening_kept d s d.head k f.0 f.1 k.stack refl k.rules
 kept_where d (parsed.Irq r) k i f =
     let h : Head = record d.head { irq = r } in
-    opening_kept d d.sizes h k f k.sizes (same_stack d.head h refl refl refl refl k.stack) refl
+    opening_kept d d.sizes h k f k.sizes (same_stack d.head h refl refl refl refl k.stack) refl k.rules
 kept_where d (parsed.Stack s) k i f =
-    opening_kept d d.sizes (record d.head { lo = s.lo; hi = s.hi; main = s.main; handler = s.handler }) k f.0 k.sizes f.1 refl
+    opening_kept d d.sizes (record d.head { lo = s.lo; hi = s.hi; main = s.main; handler = s.handler }) k f.0 k.sizes f.1 refl k.rules
 kept_where d (parsed.Cell c) k i f = cell_kept d c k f
 kept_where d (parsed.Kind n) k i f = kind_kept d n k i.0 f
 kept_where d (parsed.Event e) k i f = event_more d e k i.0 f (eqb (d.owed - 1) 0) refl

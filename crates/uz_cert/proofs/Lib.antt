@@ -12,5 +12,6 @@ pub mod Runs
 pub mod SpelledText
 pub mod Steps
 pub mod TextLaws
+pub mod Told
 pub mod Whole
 pub mod WholeText

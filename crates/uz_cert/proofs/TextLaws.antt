@@ -12,7 +12,7 @@ use Rattle.uz_cert_lines.specs.FirstFault.{Allows, HasFirstFault}
 use Rattle.uz_cert_lines.specs.Lines.{head_line}
 use Rattle.uz_cert_lines.specs.declared.lines.ParsedLine.{ParsedLine}
 use Rattle.uz_cert_lines.specs.declared.version.Version.{Version}
-use Rattle.uz_cert_lines.specs.declared.version.Version.TheVariants.{First, Second}
+use Rattle.uz_cert_lines.specs.declared.version.Version.TheVariants.{First, Second, Third}
 use Rattle.uz_cert_lines.specs.declared.why.CertWhy.{CertWhy}
 use Rattle.uz_cert_lines.specs.declared.why.CertWhy.TheVariants as why
 use Rattle.uz_cert.specs.Drafts.{first_draft, lacks, expected_line, form_of, draft_after}
@@ -310,11 +310,13 @@ test_head v line =
     same_head : (version : Version) → bytes_eq (head_line version) (head_line version) ≡ true
     same_head First = refl
     same_head Second = refl
+    same_head Third = refl
 
 pub head_read : (version : Version) (rest : List (List ℕ)) → is_more rest ≡ true
     → read_pieces version (head_line version ∷ rest) ≡ read_from (first_draft version) rest
 head_read First rest more = ap (λ t. or_fault 1 (cond t (Ok (first_draft First)) (Err why.NoEnd)) (λ d. read_from d rest)) more
 head_read Second rest more = ap (λ t. or_fault 1 (cond t (Ok (first_draft Second)) (Err why.NoEnd)) (λ d. read_from d rest)) more
+head_read Third rest more = ap (λ t. or_fault 1 (cond t (Ok (first_draft Third)) (Err why.NoEnd)) (λ d. read_from d rest)) more
 
 pub text_certificate : (l : LineLaw) (v : Version) (text : List ℕ) (c : Cert) → cert_of_text v text ≡ told c → IsCertificateText v text c
 text_certificate l v text c e = by (pieces_of text) e
@@ -403,6 +405,7 @@ head_fault v line rest w (inr h) =
     alone : (version : Version) → read_pieces version (head_line version ∷ []) ≡ fault 1 why.NoEnd
     alone First = refl
     alone Second = refl
+    alone Third = refl
 
 pub fault_text : (l : LineLaw) (v : Version) (text : List ℕ) (n : ℕ) (w : CertWhy) → IsFirstFault v text n w → cert_of_text v text
     ≡ fault n w

@@ -1,6 +1,6 @@
 -- Whole texts: a certificate's text is read as it, and a text that is read is its certificate's.
-use Rattle.std.proofs.Common.{◌≡◌, ◌≢◌, ℕ, ◌+◌, Bool, true, false, cond, List, [], ◌∷◌, ◌++◌, length}
-use Rattle.std.proofs.Common.{bytes_eq, zero-add, refl, sym, ◌∙◌, ap}
+use Rattle.std.proofs.Common.{◌≡◌, ◌≢◌, ℕ, Bool, true, false, cond, List, [], ◌∷◌, ◌++◌, length}
+use Rattle.std.proofs.Common.{bytes_eq, zero-add, refl, sym, ◌∙◌, ap, subst}
 use Rattle.std.proofs.Common.{arith}
 use Rattle.std.specs.Prelude.{Ok, Err}
 use Rattle.std.specs.List.{join_with_byte}
@@ -19,7 +19,7 @@ use Rattle.uz_cert_lines.specs.declared.why.CertWhy.TheVariants as why
 use Rattle.uz_cert.specs.Drafts.{first_draft}
 use Rattle.uz_cert_lines.specs.Lines.{head_line, SizesFit}
 use Rattle.uz_cert_lines.specs.declared.version.Version.{Version}
-use Rattle.uz_cert_lines.specs.declared.version.Version.TheVariants.{First, Second}
+use Rattle.uz_cert_lines.specs.declared.version.Version.TheVariants.{First, Second, Third}
 use Rattle.uz_cert.proofs.TextLaws.{head_read}
 use Rattle.uz_cert.specs.Kept.{Kept}
 use Rattle.uz_cert.specs.Reading.{pieces_of, is_more, or_fault, cert_from, read_from, read_pieces, cert_of_text}
@@ -33,6 +33,7 @@ use Rattle.uz_cert.proofs.SpelledText.{fall_again, with_kinds, kinds_more}
 use Rattle.uz_cert.proofs.Runs.{expand_runs, all_runs, runs_apart}
 use Rattle.uz_cert.proofs.NextLine.{pieces_plain, lines_back}
 use Rattle.uz_schedule.specs.declared.kinds.Response.{Response}
+use Rattle.uz_schedule.specs.declared.kinds.RuleVersion.{RuleVersion}
 
 -- the opening
 
@@ -42,8 +43,8 @@ draft_sizes v s = record (first_draft v) { read = 2; sizes = s }
 abbrev draft_irq : Version → Sizes → Response → Draft
 draft_irq v s r = record (first_draft v) { read = 3; sizes = s; head = record (first_draft v).head { irq = r } }
 
-abbrev draft_stack : Version → Sizes → Response → StackLine → Draft
-draft_stack v s r t = record (first_draft v) {
+abbrev draft_stack : Version → Sizes → Response → StackLine → RuleVersion → Draft
+draft_stack v s r t rules = record (first_draft v) {
   read = 4;
   sizes = s;
   head = record {
@@ -53,6 +54,7 @@ draft_stack v s r t = record (first_draft v) {
     main = t.main;
     handler = t.handler;
     cells = record { items = [] };
+    version = rules;
   };
 }
 
@@ -97,10 +99,10 @@ middle_some v c = more_lines (cell_lines c.head.cells.items) (kinds_then v c.sch
     (kinds_some v c)
 
 middle_again : (l : LineSpelling) (v : Version) (c : Cert) → WellFormed c → IsOfVersion v c
-    → Kept (draft_stack v (sizes_of c) c.head.irq (stack_of c.head))
-    → read_from (draft_stack v (sizes_of c) c.head.irq (stack_of c.head)) (middle_lines v c) ≡ told c
+    → Kept (draft_stack v (sizes_of c) c.head.irq (stack_of c.head) c.head.version)
+    → read_from (draft_stack v (sizes_of c) c.head.irq (stack_of c.head) c.head.version) (middle_lines v c) ≡ told c
 middle_again l v c w own kept =
-    let d = draft_stack v (sizes_of c) c.head.irq (stack_of c.head) in
+    let d = draft_stack v (sizes_of c) c.head.irq (stack_of c.head) c.head.version in
     let fits = All-weaker (CellFits c.head) (CellFits d.head) (λ x f. same_cell c.head d.head x refl refl f) c.head.cells.items w.head.cells in
     let m = cells_again l d c.head.cells.items (kinds_then v c.schedule.kinds c.schedule.lengths (late_lines c)) kept (omega arith)
     (zero-add (length c.head.cells.items)) fits w.head.rise (kinds_some v c) in
@@ -148,7 +150,9 @@ lines_again l v c w own =
     (omega arith, sizes) refl
     ∙ (step l d_size (parsed.Irq c.head.irq) stack_on kept_size is_irq (omega arith) refl
     ∙ (step l d_irq (parsed.Stack (stack_of c.head)) (middle_lines v c) kept_irq is_stack (omega arith, stack) (middle_some v c)
-    ∙ middle_again l v c w own kept_stack))
+    ∙ (ap (λ rules. read_from (draft_stack v (sizes_of c) c.head.irq (stack_of c.head) rules) (middle_lines v c)) (sym own.rules)
+    ∙ middle_again l v c w own (subst (λ rules. Kept (draft_stack v (sizes_of c) c.head.irq (stack_of c.head) rules)) (sym own.rules)
+    kept_stack))))
 
 -- whole texts
 
@@ -164,6 +168,8 @@ head_lacks First =
     lacks_cons 10 117 (122 ∷ 99 ∷ 101 ∷ 114 ∷ 116 ∷ 32 ∷ 49 ∷ []) (λ e. omega (arith, e)) (head_begins 49 (λ e. omega (arith, e)))
 head_lacks Second =
     lacks_cons 10 117 (122 ∷ 99 ∷ 101 ∷ 114 ∷ 116 ∷ 32 ∷ 50 ∷ []) (λ e. omega (arith, e)) (head_begins 50 (λ e. omega (arith, e)))
+head_lacks Third =
+    lacks_cons 10 117 (122 ∷ 99 ∷ 101 ∷ 114 ∷ 116 ∷ 32 ∷ 51 ∷ []) (λ e. omega (arith, e)) (head_begins 51 (λ e. omega (arith, e)))
 
 pub spelling_read : (l : LineSpelling) (v : Version) (c : Cert) → WellFormed c → IsOfVersion v c
     → cert_of_text v (spelling v c) ≡ told c

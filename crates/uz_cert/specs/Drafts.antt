@@ -8,7 +8,7 @@ use Rattle.uz_schedule.specs.declared.lines.Event.{Event}
 use Rattle.uz_schedule.specs.declared.states.Entry.{Entry}
 use Rattle.uz_cert_lines.specs.Forms.{LineForm}
 use Rattle.uz_cert_lines.specs.Lines.{size_form, irq_form, stack_form, cell_form, kind_form, event_form, fall_form, run_form, rest_form}
-use Rattle.uz_cert_lines.specs.Lines.{entry_form, point_form, end_form}
+use Rattle.uz_cert_lines.specs.Lines.{entry_form, point_form, end_form, rules_of}
 use Rattle.uz_cert_lines.specs.declared.lines.ParsedLine.{ParsedLine}
 use Rattle.uz_cert_lines.specs.declared.lines.ParsedLine.TheVariants as parsed
 use Rattle.uz_cert_lines.specs.declared.version.Version.{Version}
@@ -22,7 +22,7 @@ first_draft version = record {
   version = version;
   read = 1;
   sizes = record { kinds = 1; lines = 1; rests = 0; points = 1; cells = 0 };
-  head = record { irq = Four; lo = 256; hi = 4351; main = 0; handler = 0; cells = record { items = [] } };
+  head = record { irq = Four; lo = 256; hi = 4351; main = 0; handler = 0; cells = record { items = [] }; version = rules_of version };
   cell_least = 0;
   kinds = [];
   lengths = [];

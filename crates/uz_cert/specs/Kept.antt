@@ -9,7 +9,7 @@ use Rattle.uz_schedule.specs.declared.lines.Event.{Event}
 use Rattle.uz_schedule.specs.declared.states.Rest.{Rest}
 use Rattle.uz_schedule.specs.declared.states.Entry.{Entry}
 use Rattle.uz_schedule.specs.declared.states.Point.{Point}
-use Rattle.uz_cert_lines.specs.Lines.{SizesFit, IsLengthIn, KindLineFits, IsPointIn}
+use Rattle.uz_cert_lines.specs.Lines.{SizesFit, IsLengthIn, KindLineFits, IsPointIn, rules_of}
 use Rattle.uz_cert_lines.specs.declared.lines.KindLine.{KindLine}
 use Rattle.uz_cert_lines.specs.declared.version.Version.{Version}
 use Rattle.uz_cert_lines.specs.declared.lines.Sizes.{Sizes}
@@ -103,6 +103,7 @@ pub record Later (d : Draft) : Type 0 where
 
 pub record Kept (d : Draft) : Type 0 where
   pub begun : 1 ≤ d.read
+  pub rules : d.head.version ≡ rules_of d.version
   pub sizes : SizesFit d.sizes
   pub stack : StackFits d.head
   pub cells : CellsKept d.head d.sizes.cells d.cell_least

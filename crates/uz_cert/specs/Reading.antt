@@ -11,6 +11,7 @@ use Rattle.uz_cert_lines.specs.Grammar.{Words, words_of}
 use Rattle.uz_cert_lines.specs.Forms.{reads}
 use Rattle.uz_cert_lines.specs.Lines.{head_line}
 use Rattle.uz_cert_lines.specs.declared.version.Version.{Version}
+use Rattle.uz_cert_lines.specs.declared.version.Version.TheVariants.{Second, Third}
 use Rattle.uz_cert_lines.specs.declared.why.CertWhy.{CertWhy}
 use Rattle.uz_cert_lines.specs.declared.why.CertWhy.TheVariants as why
 use Rattle.uz_cert.specs.Drafts.{first_draft, expected_line, form_of, draft_after}
@@ -91,6 +92,19 @@ read_pieces version (line ∷ lines) = or_fault 1 (head_says version line (is_mo
 -- the certificate of a text of a version, or the text's first fault
 abbrev pub cert_of_text : Version → List ℕ → Result Cert Fault
 cert_of_text version text = read_pieces version (pieces_of text)
+
+-- the version that a text is to be of: 3 where its first line says so, and else 2
+
+abbrev pub version_by : List (List ℕ) → Version
+version_by [] = Second
+version_by (line ∷ lines) = if bytes_eq line (head_line Third) then Third else Second
+
+unfoldable pub version_told : List ℕ → Version
+version_told text = version_by (pieces_of text)
+
+-- the certificate of a text of the version that it tells, or the text's first fault
+abbrev pub cert_told : List ℕ → Result Cert Fault
+cert_told text = cert_of_text (version_told text) text
 
 abbrev pub IsMemory : CertError → Type 0
 IsMemory e = (e.line ≡ 0) × (e.why ≡ why.Memory)

@@ -4,13 +4,14 @@ use Rattle.std.specs.Prelude.{◌≡◌, ◌≢◌, ◌⊎◌, ℕ, ◌+◌, tru
 use Rattle.uz_schedule.specs.declared.states.Entry.{Entry}
 use Rattle.uz_schedule.specs.declared.certificate.Cert.{Cert}
 use Rattle.uz_cert_lines.specs.FirstFault.{Allows, HasFirstFault}
-use Rattle.uz_cert_lines.specs.Lines.{head_line, IsLengthIn, IsPointIn}
+use Rattle.uz_cert_lines.specs.Lines.{head_line, rules_of, text_version, IsLengthIn, IsPointIn}
 use Rattle.uz_cert_lines.specs.declared.lines.ParsedLine.{ParsedLine}
 use Rattle.uz_cert_lines.specs.declared.version.Version.{Version}
 use Rattle.uz_cert_lines.specs.declared.why.CertWhy.{CertWhy}
 use Rattle.uz_cert_lines.specs.declared.why.CertWhy.TheVariants as why
+use Rattle.uz_cert_writer.specs.Spelling.{spelling}
 use Rattle.uz_cert.specs.Drafts.{first_draft, expected_line, form_of, draft_after}
-use Rattle.uz_cert.specs.Reading.{pieces_of, is_more, words_in, cert_from}
+use Rattle.uz_cert.specs.Reading.{pieces_of, is_more, version_told, words_in, cert_from}
 use Rattle.uz_cert.specs.declared.expected_line.ExpectedLine.{ExpectedLine}
 use Rattle.uz_cert.specs.declared.draft.Draft.{Draft}
 
@@ -38,8 +39,9 @@ pub record SpellsCertificate (version : Version) (pieces : List (List ℕ)) (c :
   pub has_entry : draft.entry ≡ Some entry
   pub is : c ≡ cert_from draft entry
 
--- what a version says: in version 1 each length is a scanline's, and nothing is said of the timer
+-- what a version says: it tells the rules, and in version 1 each length is a scanline's, and nothing is said of the timer
 pub record IsOfVersion (version : Version) (c : Cert) : Type 0 where
+  pub rules : c.head.version ≡ rules_of version
   pub lengths : All (IsLengthIn version) c.schedule.lengths
   pub points : All (IsPointIn version) c.points
 
@@ -79,3 +81,17 @@ pub record FailsLater (version : Version) (pieces : List (List ℕ)) (n : ℕ) (
 -- the first fault of a text that is to be of a version, and the number of its line, counted from 1
 abbrev pub IsFirstFault : Version → List ℕ → ℕ → CertWhy → Type 0
 IsFirstFault version text n w = FailsAtHead version (pieces_of text) n w ⊎ FailsLater version (pieces_of text) n w
+
+-- A text as it is read where no version is asked for: it is to be of the version that it tells
+
+-- the text is this certificate's
+abbrev pub IsToldText : List ℕ → Cert → Type 0
+IsToldText text c = IsCertificateText (version_told text) text c
+
+-- its first fault, and the number of its line
+abbrev pub IsToldFault : List ℕ → ℕ → CertWhy → Type 0
+IsToldFault text n w = IsFirstFault (version_told text) text n w
+
+-- the text that is written of a certificate, which is of the version of its rules
+abbrev pub own_text : Cert → List ℕ
+own_text c = spelling (text_version c.head.version) c

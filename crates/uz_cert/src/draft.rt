@@ -119,6 +119,7 @@ impl Draft {
                 main: 0,
                 handler: 0,
                 cells: ArrayVec::new(),
+                version: version.rules(),
             },
             cell_least: 0,
             kinds: Sequence::new(alloc),

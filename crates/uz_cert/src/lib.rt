@@ -17,6 +17,7 @@ pub use text_laws::text_is_unique;
 pub use uz_cert_lines::{CertWhy, Version};
 pub use uz_cert_writer::write_cert;
 pub use uz_schedule::{
-    Bit, Cell, Cert, Entry, Event, EventKind, Fact, Head, Instance, Kind, LineEvents, Owner,
-    PairFact, Point, Response, Rest, Schedule, Sequence, Span, Val, Wide, hull, well_formed,
+    Against, Bit, Cell, Cert, Compared, Entry, Event, EventKind, Fact, Head, Instance, Kind,
+    LineEvents, Owner, PairFact, Point, Response, Rest, RuleVersion, Schedule, Sequence, Span, Val,
+    Wide, hull, well_formed,
 };

@@ -3,13 +3,16 @@
 ghost use Rattle.std.specs.Prelude.{◌≡◌, ◌⊎◌, ◌<◌, ◌≤◌, ◌-◌, ◌^◌, ℕ, List, ◌∷◌, All, length, IfOk, IfErr, OnOk, Some, Ok, Err};
 ghost use Rattle.uz_schedule.specs.WellFormed.{IsTimerLeftOut, WellFormed};
 ghost use Rattle.uz_cert.specs.Reading.{Gives, IsMemory, bytes_left, cert_before, cert_of_text};
-ghost use Rattle.uz_cert.specs.Reading.{cert_with as cert_with_entry, is_more, pieces_left, pieces_of, read_from};
+ghost use Rattle.uz_cert.specs.Reading.{cert_told, cert_with as cert_with_entry, is_more, pieces_left, pieces_of, read_from};
+ghost use Rattle.uz_cert.specs.Reading.{version_told};
 ghost use Rattle.uz_cert.specs.Drafts.{first_draft};
-ghost use Rattle.uz_cert.specs.Texts.{IsCertificateText, IsFirstFault, IsOfVersion};
+ghost use Rattle.uz_cert.specs.Texts.{IsCertificateText, IsFirstFault, IsOfVersion, IsToldFault, IsToldText};
 ghost use Rattle.uz_schedule.specs.declared.certificate.Cert.{Cert as TheCert};
 ghost use Rattle.uz_cert_lines.specs.declared.why.CertWhy.{CertWhy};
 ghost use Rattle.uz_cert_lines.specs.declared.version.Version.{Version as TheVersion};
-ghost use Rattle.uz_cert_lines.specs.declared.version.Version.TheVariants.{First, Second};
+ghost use Rattle.uz_cert_lines.specs.declared.version.Version.TheVariants.{First, Second, Third};
+ghost use Rattle.uz_cert_lines.specs.Lines.{rules_of};
+ghost use Rattle.uz_schedule.specs.declared.kinds.RuleVersion.TheVariants.{Two};
 ghost use Rattle.uz_schedule.specs.Schedule.{scanline};
 
 use crate::draft::Draft;
@@ -155,32 +158,50 @@ fn read_version(alloc: Global, version: Version, text: &[u8]) -> Result<Cert, Ce
     read_text(alloc, version, text)
 }
 
-/// Reads the text of a certificate, of version 2, or tells its first fault.
+/// The version that a text is to be of: 3 where its first line says so, and else 2.
+#[tactic(auto, unfolding(crate::specs::Reading::version_told))]
+fn version_of(text: &[u8]) -> Version
+    ensures { result ≡ version_told text.now }
+{
+    let (line, _rest) = cut_line(text);
+    if line == Version::Third.head() {
+        Version::Third
+    } else {
+        Version::Second
+    }
+}
+
+/// Reads the text of a certificate, of version 2 or 3, or tells its first fault. The certificate's rules are those of the
+/// version.
 ///
 /// The lines end in LF, and each is read as the one that is due after the lines before it (this project's profile). The
 /// error names the first line that isn't as is due, counted from 1, and the fault of its first faulty word. A text that
 /// goes on after `end`, or ends before it, is `NoEnd` at that line; a text of version 1 is `Head` at line 1. `Memory`, at
-/// line 0, may come at any point. One pass is made over the text, and no memory is taken but for what the certificate keeps.
+/// line 0, may come at any point. One pass is made over the lines after the first, and no memory is taken but for what the
+/// certificate keeps.
 pub fn read_cert(alloc: Global, text: &[u8]) -> Result<Cert, CertError>
     requires { length text.now < 2 ^ 32 - 1 }
 
-    // Ok with exactly the certificate whose text this is.
-    ensures found { IfOk result (λ c. IsCertificateText Second text.now c) }
-    ensures only { (c : TheCert) → IsCertificateText Second text.now c → Gives result (Ok c) }
+    // Ok with exactly the certificate whose text this is, and it is judged by the rules of the text's version.
+    ensures found { IfOk result (λ c. IsToldText text.now c) }
+    ensures only { (c : TheCert) → IsToldText text.now c → Gives result (Ok c) }
+    ensures only_2 { (c : TheCert) → IsCertificateText Second text.now c → Gives result (Ok c) }
+    ensures only_3 { (c : TheCert) → IsCertificateText Third text.now c → Gives result (Ok c) }
     ensures well_formed { IfOk result WellFormed }
+    ensures rules { IfOk result (λ c. c.head.version ≡ rules_of (version_told text.now)) }
 
     // Refused exactly with the first fault.
-    ensures first { IfErr result (λ e. IsMemory e ⊎ IsFirstFault Second text.now e.line e.why) }
-    ensures faulty { (line : ℕ) (why : CertWhy) → IsFirstFault Second text.now line why → Gives result (Err (line, why)) }
+    ensures first { IfErr result (λ e. IsMemory e ⊎ IsToldFault text.now e.line e.why) }
+    ensures faulty { (line : ℕ) (why : CertWhy) → IsToldFault text.now line why → Gives result (Err (line, why)) }
 
     // The same, as a function of the text.
-    ensures exact { Gives result (cert_of_text Second text.now) }
+    ensures exact { Gives result (cert_told text.now) }
 {
-    read_version(alloc, Version::Second, text)
+    read_version(alloc, version_of(text), text)
 }
 
 /// Reads the text of a certificate, of version 1, or tells its first fault, as `read_cert` does for version 2. A kind of
-/// line has the clocks of a scanline, and no item is one of the timer. A text of version 2 is `Head` at line 1.
+/// line has the clocks of a scanline, and no item is one of the timer. A text of another version is `Head` at line 1.
 pub fn read_cert_1(alloc: Global, text: &[u8]) -> Result<Cert, CertError>
     requires { length text.now < 2 ^ 32 - 1 }
 
@@ -189,6 +210,7 @@ pub fn read_cert_1(alloc: Global, text: &[u8]) -> Result<Cert, CertError>
     ensures found { IfOk result (λ c. IsCertificateText First text.now c) }
     ensures only { (c : TheCert) → IsCertificateText First text.now c → Gives result (Ok c) }
     ensures well_formed { IfOk result WellFormed }
+    ensures rules { IfOk result (λ c. c.head.version ≡ Two) }
     ensures scanlines { IfOk result (λ c. All (λ n. n ≡ scanline) c.schedule.lengths) }
     ensures timers { IfOk result (λ c. All IsTimerLeftOut c.points) }
 
@@ -203,7 +225,8 @@ pub fn read_cert_1(alloc: Global, text: &[u8]) -> Result<Cert, CertError>
 }
 
 /// Each text is, as one of a version, one certificate's or has one first fault, and never both; the plain reader answers
-/// just that; and what it answers is within the limits of certificates, and what the version says. Does nothing.
+/// just that; and what it answers is within the limits of certificates, and what the version says. A text that is a
+/// certificate's in version 2 or 3 tells this version. Does nothing.
 pub fn text_or_fault()
     ensures either { (version : TheVersion) (text : List ℕ)
         → ((c : TheCert) × IsCertificateText version text c) ⊎ ((line : ℕ) × (why : CertWhy) × IsFirstFault version text line why) }
@@ -223,6 +246,8 @@ pub fn text_or_fault()
         → IsFirstFault version text line why → cert_of_text version text ≡ Err (line, why) }
     ensures fits { (version : TheVersion) (text : List ℕ) (c : TheCert)
         → cert_of_text version text ≡ Ok c → WellFormed c × IsOfVersion version c }
+    ensures told_2 { (text : List ℕ) (c : TheCert) → IsCertificateText Second text c → version_told text ≡ Second }
+    ensures told_3 { (text : List ℕ) (c : TheCert) → IsCertificateText Third text c → version_told text ≡ Third }
 {
     said_lines();
     line_or_fault();

@@ -17,7 +17,8 @@ pub use Rattle.uz_cert_lines.specs.Items.{slot_set, successor_set, take_cut, tak
 unfoldable pub use Rattle.uz_cert_lines.specs.Items.{first_facts, read_items, take_cell, take_flag, take_item, take_letter, take_named}
 unfoldable pub use Rattle.uz_cert_lines.specs.Items.{take_pair, take_register, take_slot, take_successor}
 pub use Rattle.uz_cert_lines.specs.Lines.{least_of, none_in_main, one_of, span_of_fact, within}
-pub use Rattle.uz_cert_lines.specs.Named.{NamedItem, NamedValues, ValueForm, ValueOf, a_number, a_range, is_usual, named_items, named_of}
+pub use Rattle.uz_cert_lines.specs.Named.{NamedItem, NamedValues, ValueForm, ValueOf, a_number, a_range, a_comparison, a_register}
+pub use Rattle.uz_cert_lines.specs.Named.{is_usual, named_items, named_of}
 pub use Rattle.uz_cert_lines.specs.Named.{named_place, successors_place, usual_facts, with_named}
 pub use Rattle.uz_cert_lines.specs.Values.{bit_of, digits, ends, ends_of, fact_of, pair_of}
 unfoldable pub use Rattle.uz_cert_lines.specs.Values.{one_number, range, raw_of, span_of, two_numbers}
@@ -28,12 +29,12 @@ pub use Rattle.uz_cert_lines.specs.declared.lines.ParsedLine.{ParsedLine}
 pub use Rattle.uz_cert_lines.specs.declared.values.FactForms.{FactForms}
 pub use Rattle.uz_cert_lines.specs.declared.values.Raw.{Raw}
 pub use Rattle.uz_cert_lines.specs.declared.version.Version.{Version}
-pub use Rattle.uz_cert_lines.specs.declared.version.Version.TheVariants.{First, Second}
+pub use Rattle.uz_cert_lines.specs.declared.version.Version.TheVariants.{First, Second, Third}
 pub use Rattle.uz_cert_lines.specs.declared.why.CertWhy.{CertWhy}
 pub use Rattle.uz_cert_writer.specs.Spelling.{cell_items, ends_word, fact_word, flag_item, flag_items, flag_word, item, kind_word, line_of}
 pub use Rattle.uz_cert_writer.specs.Spelling.{listed_items, numbers_from, options, pair_item, pair_items, pair_word, range_word}
 pub use Rattle.uz_cert_writer.specs.Spelling.{register_item, register_items, signed_word, slope_word, slot_items, successor_items, unless}
-pub use Rattle.uz_cert_writer.specs.Spelling.{value_item, value_items, value_word}
+pub use Rattle.uz_cert_writer.specs.Spelling.{comparison_word, four_word, split_word, three_word, two_word, value_item, value_items, value_word}
 pub use Rattle.uz_hex.proofs.Cuts.{cut_again, cut_read}
 pub use Rattle.uz_hex.proofs.NumberWords.{number_again, number_read}
 pub use Rattle.uz_hex.proofs.Plain.{EachPlain, Lacks, each_plain_append, lacks_cons, lacks_nil, plain}

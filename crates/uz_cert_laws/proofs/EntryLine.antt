@@ -1,5 +1,5 @@
 -- The line of an entry.
-use Rattle.uz_cert_laws.proofs.Common.{◌≡◌, ℕ, zero, suc, ◌-◌, ◌<◌, ◌≤◌, Bool, true, false, cond, ◌&&◌, eqb, List, [], ◌∷◌, ◌++◌, map}
+use Rattle.uz_cert_laws.proofs.Common.{◌≡◌, ℕ, zero, suc, ◌<◌, ◌≤◌, Bool, true, false, cond, ◌&&◌, eqb, List, [], ◌∷◌, ◌++◌, map}
 use Rattle.uz_cert_laws.proofs.Common.{length, decimal, codes, lit<, lit≤, refl, sym, ◌∙◌, ap, subst, append-nil, arith, Ok, All-nil}
 use Rattle.uz_cert_laws.proofs.Common.{All-cons, All-head, All-tail, Ends, clock_limit, RangeFits, CellFits, BitFits}
 use Rattle.uz_cert_laws.proofs.Common.{Kind, Main, Handler, Alone, Cell, Head, Fact, PairFact, Words, choice_of, range_fact, is_handler}

@@ -11,7 +11,8 @@ use Rattle.uz_hex.proofs.Plain.{decimal_lacks_above}
 use Rattle.uz_cert_lines.specs.Items.{take_named_value}
 use Rattle.uz_cert_lines.specs.declared.why.CertWhy.TheVariants as why
 use Rattle.uz_cert_laws.proofs.Tests.{some_not, not_number, so, else_so, then, is_le, is_lt}
-use Rattle.uz_cert_laws.proofs.Named.{order_so, is_name, lacks_is, IsName, letters}
+use Rattle.uz_cert_laws.proofs.Named.{order_so, is_name, IsName, letters}
+use Rattle.uz_cert_laws.proofs.Numbers.{lacks_is}
 use Rattle.uz_cert_laws.proofs.Numbers.{digits_so, numeral_so}
 use Rattle.uz_cert_laws.proofs.Facts.{fact_raw, fact_so, PairIn, pair_raw, pair_so, BitIn, bit_so}
 use Rattle.uz_cert_laws.proofs.ItemForms.{with_register, with_pair, with_flag, with_slot, with_cell, with_successor, pair_letter}

@@ -1,4 +1,5 @@
 pub mod Common
+pub mod Comparisons
 pub mod EntryLine
 pub mod Facts
 pub mod Fitting

@@ -2,8 +2,9 @@
 -- for each table of such items.
 use Rattle.uz_cert_laws.proofs.Common.{◌≡◌, ◌⊎◌, inl, inr, ℕ, ◌+◌, ◌<◌, ◌≤◌, ◌^◌, Bool, true, false, cond, not, ◌&&◌, ◌||◌, eqb, leb, ltb}
 use Rattle.uz_cert_laws.proofs.Common.{List, [], ◌∷◌, ◌++◌, length, decimal, bytes_eq, lit≤, refl, sym, ◌∙◌, ap, subst, append_assoc, arith}
-use Rattle.uz_cert_laws.proofs.Common.{⊤, Result, Ok, Err, All-cons, plain, Lacks, lacks_nil, RangeFits, ◌>>=◌, one_number, range, ends_of}
-use Rattle.uz_cert_laws.proofs.Common.{names_c_or_z, any_names, ValueForm, a_number, a_range, ValueOf, is_usual, NamedItem, named_items}
+use Rattle.uz_cert_laws.proofs.Common.{⊤, Result, Ok, Err, plain, RangeFits, ◌>>=◌, one_number, range, ends_of}
+use Rattle.uz_cert_laws.proofs.Common.{names_c_or_z, any_names, ValueForm, a_number, a_range, a_comparison, a_register, ValueOf, is_usual}
+use Rattle.uz_cert_laws.proofs.Common.{NamedItem, named_items}
 use Rattle.uz_cert_laws.proofs.Common.{named_place, NamedValues, Shape, Facts, CertWhy, item, unless, range_word, value_word, value_item}
 use Rattle.uz_cert_laws.proofs.Common.{value_items, listed_items}
 use Rattle.uz_cert_lines.specs.Named.{usual_of, temp_forms, value_read}
@@ -11,7 +12,9 @@ use Rattle.uz_cert_lines.specs.Items.{in_order, value_set, take_value, take_list
 use Rattle.uz_cert_lines.specs.declared.why.CertWhy.TheVariants as why
 use Rattle.uz_cert_laws.proofs.Tests.{and_true, both_true, neither, not_true, true_not, refuted, fine_is, fault_not, passed, so, else_so, tested}
 use Rattle.uz_cert_laws.proofs.Tests.{bind_ok, then, le_is, is_le, lt_is, number_is, same_number, word_is, same_word}
-use Rattle.uz_cert_laws.proofs.Numbers.{one_only, one_so}
+use Rattle.uz_cert_laws.proofs.Numbers.{one_only, one_so, lacks}
+use Rattle.uz_cert_laws.proofs.Comparisons.{comparison_only, comparison_so, nothing_is, split_only, split_so, none_is}
+use Rattle.uz_schedule.specs.WellFormed.{ComparedFits, SplitFits}
 use Rattle.uz_cert_laws.proofs.Facts.{temp_only, temp_raw, temp_so, whole_ends, part_from}
 use Rattle.uz_cert_laws.proofs.Sections.{Section, IsSection}
 
@@ -37,11 +40,15 @@ order_so facts place t set l e =
 abbrev pub ValueFits : (form : ValueForm) → ValueOf form → Type 0
 ValueFits (a_number limit may usual) n = (may n ≡ true) × (n < limit)
 ValueFits a_range e = RangeFits 255 e
+ValueFits a_comparison compared = ComparedFits compared
+ValueFits a_register register = SplitFits register
 
 -- its default fits, and its numbers are few enough to be read
 abbrev pub is_sound : ValueForm → Bool
 is_sound (a_number limit may usual) = leb limit (2 ^ 32) && (may usual && ltb usual limit)
 is_sound a_range = true
+is_sound a_comparison = true
+is_sound a_register = true
 
 pub small : (limit usual : ℕ) (may : ℕ → Bool) → is_sound (a_number limit may usual) ≡ true → limit ≤ 2 ^ 32
 small limit usual may s = le_is limit (2 ^ 32) (and_true (leb limit (2 ^ 32)) (may usual && ltb usual limit) s).0
@@ -51,14 +58,20 @@ usual_fits (a_number limit may usual) s =
     let two = and_true (may usual) (ltb usual limit) (and_true (leb limit (2 ^ 32)) (may usual && ltb usual limit) s).1 in
     (two.0, lt_is usual limit two.1)
 usual_fits a_range s = record { order = lit≤ tt; high = lit≤ tt }
+usual_fits a_comparison s = tt
+usual_fits a_register s = tt
 
 usual_is : (form : ValueForm) → is_usual form (usual_of form) ≡ true
 usual_is (a_number limit may usual) = same_number usual
 usual_is a_range = refl
+usual_is a_comparison = refl
+usual_is a_register = refl
 
 pub usual_only : (form : ValueForm) (x : ValueOf form) → is_usual form x ≡ true → x ≡ usual_of form
 usual_only (a_number limit may usual) n e = number_is n usual e
 usual_only a_range x e = sym (whole_ends x e)
+usual_only a_comparison x e = nothing_is x e
+usual_only a_register x e = none_is x e
 
 value_only : (form : ValueForm) (w : List ℕ) (x : ValueOf form) → is_sound form ≡ true → value_read form w ≡ Ok x
     → (w ≡ value_word form x) × ValueFits form x
@@ -72,6 +85,8 @@ value_only a_range w x s e =
     let m = bind_ok (range temp_forms w) (λ raw. ends_of raw) x e in
     let is = temp_only w m.0 x m.1 m.2 in
     (is.0, is.1.range)
+value_only a_comparison w x s e = comparison_only w x e
+value_only a_register w x s e = split_only w x e
 
 value_so : (form : ValueForm) (x : ValueOf form) → is_sound form ≡ true → ValueFits form x → is_usual form x ≡ false
     → value_read form (value_word form x) ≡ Ok x
@@ -81,22 +96,14 @@ value_so (a_number limit may usual) n s f o =
 value_so a_range x s f o =
     let is = temp_so x (part_from x f o) in
     then (range temp_forms (range_word x)) (λ raw. ends_of raw) (temp_raw x) (Ok x) is.0 is.1
+value_so a_comparison x s f o = comparison_so x f o
+value_so a_register x s f o = split_so x f o
 
 pub or_second : (a b : Bool) → b ≡ true → (a || b) ≡ true
 or_second true b e = refl
 or_second false b e = e
 
 -- names: at least two letters, none of which begins another item
-
-abbrev pub lacks : ℕ → List ℕ → Bool
-lacks c [] = true
-lacks c (b ∷ bs) = not (eqb b c) && lacks c bs
-
-pub lacks_is : (c : ℕ) (bs : List ℕ) → lacks c bs ≡ true → Lacks c bs
-lacks_is c [] e = lacks_nil c
-lacks_is c (b ∷ bs) e =
-    let two = and_true (not (eqb b c)) (lacks c bs) e in
-    All-cons (λ x. eqb x c ≡ false) b bs (not_true (eqb b c) two.0) (lacks_is c bs two.1)
 
 abbrev pub is_name : List ℕ → Bool
 is_name [] = false

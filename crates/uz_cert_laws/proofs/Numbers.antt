@@ -2,7 +2,8 @@
 use Rattle.uz_cert_laws.proofs.Common.{◌≡◌, ◌⊎◌, inl, inr, ℕ, zero, suc, ◌+◌, ◌<◌, ◌≤◌, ◌≢◌, ◌^◌, Bool, true, false, cond, not, ◌&&◌, eqb}
 use Rattle.uz_cert_laws.proofs.Common.{leb, ltb, List, [], ◌∷◌, length, decimal, lit≤, add-one, refl, sym, ◌∙◌, ap, subst, arith, Option}
 use Rattle.uz_cert_laws.proofs.Common.{Some, None, Ok, Err, nat_tests, is_numeral, number_below, cut_at, number_read, number_again, Lacks}
-use Rattle.uz_cert_laws.proofs.Common.{lacks_nil, lacks_cons, All-head, All-tail, magnitude, number_of, slope_of, digits, one_number}
+use Rattle.uz_cert_laws.proofs.Common.{lacks_nil, lacks_cons, All-cons, All-head, All-tail, magnitude, number_of, slope_of, digits}
+use Rattle.uz_cert_laws.proofs.Common.{one_number}
 use Rattle.uz_cert_laws.proofs.Common.{two_numbers, signed_word}
 use Rattle.std.proofs.Common.{ℤ, pos, negsuc}
 use Rattle.std.proofs.lemmas.Fmt.{decimal_nonempty}
@@ -102,6 +103,17 @@ digits_lack_below c (b ∷ bs) h e =
 
 pub decimal_lacks_below : (c n : ℕ) → c < 48 → n < 2 ^ 64 → Lacks c (decimal n)
 decimal_lacks_below c n h k = digits_lack_below c (decimal n) h (digits_of_decimal n k)
+
+-- a text that is given, as a test
+abbrev pub lacks : ℕ → List ℕ → Bool
+lacks c [] = true
+lacks c (b ∷ bs) = not (eqb b c) && lacks c bs
+
+pub lacks_is : (c : ℕ) (bs : List ℕ) → lacks c bs ≡ true → Lacks c bs
+lacks_is c [] e = lacks_nil c
+lacks_is c (b ∷ bs) e =
+    let two = and_true (not (eqb b c)) (lacks c bs) e in
+    All-cons (λ x. eqb x c ≡ false) b bs (not_true (eqb b c) two.0) (lacks_is c bs two.1)
 
 -- a text without the separator isn't cut
 pub cut_none : (c : ℕ) (w : List ℕ) → Lacks c w → cut_at c w ≡ None

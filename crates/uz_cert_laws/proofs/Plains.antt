@@ -1,16 +1,22 @@
 -- The words of spelled lines: each byte is above the space, so that a line is cut into its words again, and has no line end.
-use Rattle.uz_cert_laws.proofs.Common.{◌≡◌, ℕ, zero, suc, ◌+◌, ◌-◌, ◌<◌, ◌≤◌, ◌^◌, Bool, true, false, ◌&&◌, cond, eqb, ltb, List}
+use Rattle.uz_cert_laws.proofs.Common.{◌≡◌, ℕ, zero, suc, ◌+◌, ◌<◌, ◌≤◌, ◌^◌, Bool, true, false, ◌&&◌, cond, eqb, ltb, List}
 use Rattle.uz_cert_laws.proofs.Common.{[], ◌∷◌, ◌++◌, length, map, codes, decimal, lit≤, refl, arith, ⊤, All-head, All-tail, plain}
 use Rattle.uz_cert_laws.proofs.Common.{EachPlain, Lacks, each_plain_append, Ends, tracks, RangeFits, magnitude, is_default_flag, Kind, Fact}
 use Rattle.uz_cert_laws.proofs.Common.{PairFact, Bit, Cell, is_default, is_any_pair, is_range, words_of, line_of, range_word, ends_word}
 use Rattle.uz_cert_laws.proofs.Common.{slope_word, fact_word, pair_word, flag_word, item, unless, register_items, pair_items, flag_items}
+use Rattle.uz_cert_laws.proofs.Common.{two_word, three_word, four_word, comparison_word, split_word, Option, Some, None}
 use Rattle.uz_cert_laws.proofs.Common.{slot_items, cell_items, successor_items, value_word, value_item, value_items, listed_items}
-use Rattle.uz_cert_laws.proofs.Common.{ValueForm, a_number, a_range, ValueOf, is_usual, NamedItem, named_items, NamedValues, named_of}
+use Rattle.uz_cert_laws.proofs.Common.{ValueForm, a_number, a_range, a_comparison, a_register, ValueOf, is_usual, NamedItem, named_items}
+use Rattle.uz_cert_laws.proofs.Common.{NamedValues, named_of}
 use Rattle.uz_cert_laws.proofs.Common.{signed_word, FactForms, bytes_forms, pair_forms, Shape, Facts}
 use Rattle.std.proofs.Common.{All}
 use Rattle.std.specs.Prelude.{ℤ, pos, negsuc}
 use Rattle.std.proofs.lemmas.List.Elements.{All-weaker}
 use Rattle.uz_hex.proofs.Plain.{each_lacks, join_lacks, plain_append, plain_decimal}
+use Rattle.uz_schedule.specs.WellFormed.{ComparedFits, SplitFits}
+use Rattle.uz_schedule.specs.declared.facts.Against.TheVariants.{Register, Constant}
+use Rattle.uz_schedule.specs.declared.facts.Compared.{Compared}
+use Rattle.uz_schedule.specs.declared.facts.Compared.TheVariants as told
 use Rattle.uz_schedule.specs.declared.facts.Fact.TheVariants as fact
 use Rattle.uz_schedule.specs.declared.facts.PairFact.TheVariants as pair
 use Rattle.uz_schedule.specs.declared.facts.Bit.TheVariants as bit
@@ -188,9 +194,49 @@ plain_cells kind i (c ∷ cs) (f ∷ fs) h all =
         (plain_fact f (All-head SmallFact f fs all))) a
     by false a b = b
 
+-- what the flags tell
+
+plain_two : (a b : ℕ) → a < 1048576 → b < 1048576 → plain (two_word a b) ≡ true
+plain_two a b h k = plain_append (decimal a) (44 ∷ decimal b) (plain_number a h) (plain_more 44 (decimal b) refl (plain_number b k))
+
+plain_three : (a b c : ℕ) → a < 1048576 → b < 1048576 → c < 1048576 → plain (three_word a b c) ≡ true
+plain_three a b c h k l =
+    plain_append (decimal a) (44 ∷ two_word b c) (plain_number a h) (plain_more 44 (two_word b c) refl (plain_two b c k l))
+
+plain_four : (a b : ℕ) (e : Ends) → a < 1048576 → b < 1048576 → Small e → plain (four_word a b e.lo e.hi) ≡ true
+plain_four a b e h k s =
+    plain_append (decimal a) (44 ∷ three_word b e.lo e.hi) (plain_number a h)
+    (plain_more 44 (three_word b e.lo e.hi) refl (plain_three b e.lo e.hi k s.0 s.1))
+
+plain_comparison : (x : Compared) → ComparedFits x → plain (comparison_word x) ≡ true
+plain_comparison told.Nothing f = refl
+plain_comparison (told.Byte d (Register r)) f =
+    plain_append (codes "cp:") (two_word d r) refl (plain_two d r (omega (arith, f.0)) (omega (arith, f.1)))
+plain_comparison (told.Byte d (Constant k)) f =
+    plain_append (codes "cpi:") (two_word d k) refl (plain_two d k (omega (arith, f.0)) (omega (arith, f.1)))
+plain_comparison (told.Pair d (Register r) high) f =
+    plain_append (codes "cpw:") (three_word d r high) refl
+    (plain_three d r high (omega (arith, f.0)) (omega (arith, f.1)) (omega (arith, f.2)))
+plain_comparison (told.Pair d (Constant k) high) f =
+    plain_append (codes "cpiw:") (three_word d k high) refl
+    (plain_three d k high (omega (arith, f.0)) (omega (arith, f.1)) (omega (arith, f.2)))
+plain_comparison (told.Result d k old) f =
+    plain_append (codes "sub:") (four_word d k old.lo old.hi) refl
+    (plain_four d k old (omega (arith, f.0)) (omega (arith, f.1)) (small_range 255 old (omega arith) f.2))
+plain_comparison (told.PairResult d k old) f =
+    plain_append (codes "subw:") (four_word d k old.lo old.hi) refl
+    (plain_four d k old (omega (arith, f.0)) (omega (arith, f.1)) (small_range 65535 old (omega arith) f.2))
+plain_comparison (told.Value d) f = plain_append (codes "tst:") (decimal d) refl (plain_number d (omega (arith, f)))
+
+plain_split : (x : Option ℕ) → SplitFits x → plain (split_word x) ≡ true
+plain_split None f = refl
+plain_split (Some r) f = plain_number r (omega (arith, f))
+
 plain_value : (form : ValueForm) (x : ValueOf form) → is_sound form ≡ true → ValueFits form x → plain (value_word form x) ≡ true
 plain_value (a_number limit may usual) n s f = plain_read n limit (small limit usual may s) f.1
 plain_value a_range e s f = plain_range e (small_range 255 e (omega arith) f)
+plain_value a_comparison compared s f = plain_comparison compared f
+plain_value a_register register s f = plain_split register f
 
 plain_listed : (is : List NamedItem) (shape : Shape) (v : NamedValues is) → is_table is ≡ true → Say is shape v
     → EachPlain (listed_items is v)

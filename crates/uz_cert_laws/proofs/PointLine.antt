@@ -3,19 +3,23 @@ use Rattle.uz_cert_laws.proofs.Common.{◌≡◌, ℕ, zero, suc, ◌+◌, ◌-�
 use Rattle.uz_cert_laws.proofs.Common.{◌∷◌, decimal, codes, get_or, lit<, lit≤, refl, sym, ◌∙◌, ap, subst, arith, Ok, decimal_digit}
 use Rattle.uz_cert_laws.proofs.Common.{whole_byte, clock_limit, scanline, RangeFits, FactFits, PairFits, BitFits, magnitude, is_zero_or_one}
 use Rattle.uz_cert_laws.proofs.Common.{is_carry_and_zero_default, Kind, Main, Handler, Alone, Head, Words, choice_of, is_handler}
-use Rattle.uz_cert_laws.proofs.Common.{bytes_forms, pair_forms, reads, none_in_main, Facts, ParsedLine, Version, First, Second, kind_word}
+use Rattle.uz_cert_laws.proofs.Common.{bytes_forms, pair_forms, reads, none_in_main, Facts, ParsedLine, Version, First, Second, Third}
+use Rattle.uz_cert_laws.proofs.Common.{kind_word, Option, None}
 use Rattle.uz_cert_laws.proofs.Common.{signed_word, named_items, named_of, with_named, usual_facts, Shape}
 use Rattle.std.proofs.Common.{ℤ, pos, negsuc}
-use Rattle.uz_schedule.specs.Blank.{blank_point}
 use Rattle.uz_schedule.specs.Limits.{is_top}
 use Rattle.uz_schedule.specs.Schedule.{half_line}
-use Rattle.uz_schedule.specs.Told.{IsPointTold, point_told as told_over}
 use Rattle.uz_schedule.specs.WellFormed.{CoreFits, MemoryFits, PointFits, PointKindFits}
 use Rattle.uz_schedule.specs.WellFormed.{IsAtBegin, IsTimerLeftOut}
-use Rattle.uz_schedule.specs.WellFormed.{instances_of}
+use Rattle.uz_schedule.specs.WellFormed.{instances_of, ComparedFits, SplitFits, IsWithoutRules, RulesFit}
+use Rattle.uz_schedule.specs.declared.facts.Compared.{Compared}
+use Rattle.uz_schedule.specs.declared.facts.Compared.TheVariants.{Nothing}
+use Rattle.uz_schedule.specs.declared.kinds.RuleVersion.{RuleVersion}
+use Rattle.uz_schedule.specs.declared.kinds.RuleVersion.TheVariants.{Two, Three}
 use Rattle.uz_schedule.specs.declared.facts.PairFact.TheVariants.{Any as AnyPair}
 use Rattle.uz_schedule.specs.declared.states.Point.{Point}
-use Rattle.uz_cert_lines.specs.Lines.{is_timed, point_shape, IsPointIn, point_kind, pending_limit, count_limit, point_after, point_form}
+use Rattle.uz_cert_lines.specs.Lines.{is_timed, is_compared, point_shape, IsPointIn, point_kind, pending_limit, count_limit, point_after}
+use Rattle.uz_cert_lines.specs.Lines.{point_form}
 use Rattle.uz_cert_lines.specs.declared.lines.PointPlace.{PointPlace}
 use Rattle.uz_cert_lines.specs.declared.lines.ParsedLine.TheVariants as parsed
 use Rattle.uz_cert_writer.specs.Spelling.{truth_word, point_items, point_words}
@@ -77,6 +81,34 @@ point_untimed First kind p h o u = o
 point_untimed Second Main p h o u = h.1
 point_untimed Second Handler p h o u = absurd cc
 point_untimed Second Alone p h o u = h.1
+point_untimed Third Main p h o u = h.1
+point_untimed Third Handler p h o u = absurd cc
+point_untimed Third Alone p h o u = h.1
+
+-- what is asked of what the flags tell and of the register of a cover: where their items may not stand, there is none of it
+
+abbrev ComparedSaid : Bool → Compared → Type 0
+ComparedSaid stands x = ComparedFits x × (stands ≡ false → x ≡ Nothing)
+
+abbrev SplitSaid : Bool → Option ℕ → Type 0
+SplitSaid stands x = SplitFits x × (stands ≡ false → x ≡ None)
+
+without_rules : (stands : Bool) (p : Point) → IsWithoutRules p → ComparedSaid stands p.compared × SplitSaid stands p.split
+without_rules stands p h = ((subst ComparedFits (sym h.0) tt, λ u. h.0), (subst SplitFits (sym h.1) tt, λ u. h.1))
+
+rules_in : (version : RuleVersion) (kind : Kind) (p : Point) → RulesFit version kind p
+    → ComparedSaid (is_compared version kind) p.compared × SplitSaid (is_compared version kind) p.split
+rules_in Two kind p h = without_rules false p h
+rules_in Three Main p h = ((h.0, λ u. absurd (true_not true refl u)), (h.1, λ u. absurd (true_not true refl u)))
+rules_in Three Handler p h = without_rules false p h
+rules_in Three Alone p h = without_rules false p h
+
+rules_out : (version : RuleVersion) (kind : Kind) (p : Point) → ComparedSaid (is_compared version kind) p.compared
+    → SplitSaid (is_compared version kind) p.split → RulesFit version kind p
+rules_out Two kind p c s = (c.1 refl, s.1 refl)
+rules_out Three Main p c s = (c.0, s.0)
+rules_out Three Handler p c s = (c.1 refl, s.1 refl)
+rules_out Three Alone p c s = (c.1 refl, s.1 refl)
 
 -- what a point says by its items
 abbrev facts_of : Point → Facts
@@ -93,6 +125,7 @@ point_sayable : (version : Version) (h : Head) (lines points : ℕ) (p : Point) 
     → FactsFit (point_shape version h p.kind points) h.cells.items (facts_of p)
 point_sayable version h lines points p f o =
     let shape = point_shape version h p.kind points in
+    let rules = rules_in h.version p.kind p f.rules in
     record {
       regs_fit = each_of_all (FactIn (bytes_forms shape)) registers p.regs f.core.register_count
           (all_other (FactFits p.kind) (FactIn (bytes_forms shape)) p.regs (λ x i. fact_in shape x refl i) f.core.registers);
@@ -105,7 +138,10 @@ point_sayable version h lines points p f o =
       cells_fit = cells_in shape h.cells.items p.cells.items refl f.memory.cell_count f.memory.cells;
       listed_fit = (
         ((point_top p.kind p f.kind, top_below p.top (point_top p.kind p f.kind)), λ u. (point_untimed version p.kind p f.kind o u).top),
-        ((point_temp p.kind p f.kind, λ u. (point_untimed version p.kind p f.kind o u).temp), tt),
+        (
+          (point_temp p.kind p f.kind, λ u. (point_untimed version p.kind p f.kind o u).temp),
+          (rules.0, (rules.1, tt)),
+        ),
       );
       next_fit = (f.next.rise, f.next.there, f.next.few, λ e. absurd (true_not false e refl));
       plain_fit = λ e. absurd (true_not false e refl);
@@ -130,10 +166,10 @@ place_of p = record {
   pending = p.pending;
 }
 
-point_back : (p : Point) (n : ℕ) → IsPointTold p → eqb n 1 ≡ p.pending
+point_back : (p : Point) (n : ℕ) → eqb n 1 ≡ p.pending
     → point_of (record (place_of p) { pending = eqb n 1 }) (facts_of p) ≡ p
 unfolding point_of
-point_back p n told e = ap (λ (waits : Bool). told_over blank_point (record p { pending = waits })) e ∙ told
+point_back p n e = ap (λ (waits : Bool). record p { pending = waits }) e
 
 -- the number of the word for pending
 abbrev truth_number : Bool → ℕ
@@ -259,7 +295,7 @@ point_again version h lines points left p a small f o fits =
     (both_of (under_none kind clock_limit (magnitude p.slope) (λ m. ap magnitude (begin m).slope) f.box.slope)
     (both_of (within_so 0 (pending_limit kind) n (pending_small kind) (omega arith) (truth_under kind p f.kind))
     (point_sayable version h lines points p f o)))))))))
-    ∙ ap (λ (x : Point). fine (parsed.Point x)) (point_back p n f.told (truth_back p.pending))
+    ∙ ap (λ (x : Point). fine (parsed.Point x)) (point_back p n (truth_back p.pending))
 
 -- only
 
@@ -309,6 +345,7 @@ record PlaceSaid (lines : ℕ) (at : PointPlace) : Type 0 where
 other_untimed : (version : Version) (kind : Kind) → is_handler kind ≡ false → is_timed version kind ≡ false
 other_untimed First kind e = refl
 other_untimed Second kind e = e
+other_untimed Third kind e = e
 
 left_out : (shape : Shape) (at : PointPlace) (f : Facts) → shape.timed ≡ false → Say named_items shape (named_of f)
     → IsTimerLeftOut (point_of at f)
@@ -319,6 +356,7 @@ point_is_in : (version : Version) (h : Head) (points : ℕ) (at : PointPlace) (f
     → Say named_items (point_shape version h at.kind points) (named_of f) → IsPointIn version (point_of at f)
 point_is_in First h points at f t = left_out (point_shape First h at.kind points) at f refl t
 point_is_in Second h points at f t = tt
+point_is_in Third h points at f t = tt
 
 point_kind_fits : (version : Version) (h : Head) (lines points : ℕ) (at : PointPlace) (f : Facts) (kind : Kind) → at.kind ≡ kind
     → PlaceSaid lines at → Say named_items (point_shape version h kind points) (named_of f) → PointKindFits kind (point_of at f)
@@ -385,7 +423,7 @@ unfolding point_of
 point_fits version h lines points at f r p =
     record {
       kind = point_kind_fits version h lines points at f at.kind refl p r.listed_fit;
-      told = refl;
+      rules = rules_out h.version at.kind (point_of at f) r.listed_fit.1.1.0 r.listed_fit.1.1.1.0;
       pc = p.pc;
       box = record {
         line_order = p.line_order;

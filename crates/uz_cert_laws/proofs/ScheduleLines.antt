@@ -1,7 +1,7 @@
 -- The lines of kinds, events, the fall and runs, and the last line.
 use Rattle.uz_cert_laws.proofs.Common.{◌≡◌, ℕ, zero, suc, ◌+◌, ◌<◌, ◌≤◌, ◌^◌, Bool, true, false, cond, eqb, List, [], ◌∷◌, decimal, codes}
 use Rattle.uz_cert_laws.proofs.Common.{lit≤, refl, sym, ◌∙◌, ap, arith, Result, Ok, clock_limit, scanline, Words, choice_of, number, finish}
-use Rattle.uz_cert_laws.proofs.Common.{reads, within, ParsedLine, Version, First, Second, CertWhy}
+use Rattle.uz_cert_laws.proofs.Common.{reads, within, ParsedLine, Version, First, Second, Third, CertWhy}
 use Rattle.uz_schedule.specs.Limits.{most_events, is_length, KindFits, EventFits}
 use Rattle.uz_schedule.specs.declared.lines.Event.{Event}
 use Rattle.uz_schedule.specs.declared.lines.EventKind.{EventKind}
@@ -38,6 +38,24 @@ length_so events clocks few is =
 pub kind_sound : (version : Version) → IsReadable (kind_form version)
 kind_sound First = (refl, (lit≤ tt, λ n i. tt))
 kind_sound Second = (refl, (lit≤ tt, λ n i. (lit≤ tt, λ m j. tt)))
+kind_sound Third = (refl, (lit≤ tt, λ n i. (lit≤ tt, λ m j. tt)))
+
+-- with the length
+said_again : (k : KindLine) → KindLineFits Second k → reads (kind_form Second) (line (kind_words Second k.events k.clocks)) ≡ told (parsed.Kind k)
+said_again k f =
+    let few = f.few in
+    let most = length_few k.clocks f.clocks in
+    form_again (kind_form Second) (k.events, (k.clocks, tt)) (kind_sound Second)
+    (is_within 1 (most_events + 1) k.events (lit≤ tt) f.some (omega (arith, few, most)), (length_so k.events k.clocks few f.clocks, tt))
+
+said_only : (words : Words) (says : ParsedLine) → reads (kind_form Second) words ≡ told says
+    → (k : KindLine) × (says ≡ parsed.Kind k) × (words ≡ line (kind_words Second k.events k.clocks)) × KindLineFits Second k
+said_only words says e =
+    let r = form_only (kind_form Second) words says (kind_sound Second) e in
+    let n = r.3.0 in
+    let m = r.3.1.0 in
+    let fits = length_asked r.0.0 r.0.1.0 (omega (arith, n.below)) m.low m.below m.outside in
+    (record { events = r.0.0; clocks = r.0.1.0 }, r.1, r.2, record { some = n.low; few = fits.0; clocks = fits.1 })
 
 pub kind_again : (version : Version) (k : KindLine) → KindLineFits version k
     → reads (kind_form version) (line (kind_words version k.events k.clocks)) ≡ told (parsed.Kind k)
@@ -47,11 +65,8 @@ kind_again First k f =
     form_again (kind_form First) (k.events, tt) (kind_sound First)
     (is_within 1 (most_events + 1) k.events (lit≤ tt) f.some (omega (arith, few, same)), tt)
     ∙ ap (λ (m : ℕ). told (parsed.Kind (record { events = k.events; clocks = m }))) (sym same)
-kind_again Second k f =
-    let few = f.few in
-    let most = length_few k.clocks f.clocks in
-    form_again (kind_form Second) (k.events, (k.clocks, tt)) (kind_sound Second)
-    (is_within 1 (most_events + 1) k.events (lit≤ tt) f.some (omega (arith, few, most)), (length_so k.events k.clocks few f.clocks, tt))
+kind_again Second k f = said_again k f
+kind_again Third k f = said_again k (record { some = f.some; few = f.few; clocks = f.clocks })
 
 pub kind_only : (version : Version) (words : Words) (says : ParsedLine) → reads (kind_form version) words ≡ told says
     → (k : KindLine) × (says ≡ parsed.Kind k) × (words ≡ line (kind_words version k.events k.clocks)) × KindLineFits version k
@@ -62,12 +77,10 @@ kind_only First words says e =
       r.2,
       record { some = r.3.0.low; few = omega (arith, r.3.0.below); clocks = refl },
     )
-kind_only Second words says e =
-    let r = form_only (kind_form Second) words says (kind_sound Second) e in
-    let n = r.3.0 in
-    let m = r.3.1.0 in
-    let fits = length_asked r.0.0 r.0.1.0 (omega (arith, n.below)) m.low m.below m.outside in
-    (record { events = r.0.0; clocks = r.0.1.0 }, r.1, r.2, record { some = n.low; few = fits.0; clocks = fits.1 })
+kind_only Second words says e = said_only words says e
+kind_only Third words says e =
+    let m = said_only words says e in
+    (m.0, m.1, m.2, record { some = m.3.some; few = m.3.few; clocks = m.3.clocks })
 
 -- events
 

@@ -1,5 +1,5 @@
 -- All items of a line: what is spelled of facts is read as these facts.
-use Rattle.uz_cert_laws.proofs.Common.{◌≡◌, ℕ, zero, suc, ◌+◌, ◌-◌, ◌<◌, ◌≤◌, Bool, true, false, cond, not, ◌&&◌, ◌||◌, eqb, leb, ltb}
+use Rattle.uz_cert_laws.proofs.Common.{◌≡◌, ℕ, zero, suc, ◌+◌, ◌<◌, ◌≤◌, Bool, true, false, cond, not, ◌&&◌, ◌||◌, eqb, leb, ltb}
 use Rattle.uz_cert_laws.proofs.Common.{List, [], ◌∷◌, ◌++◌, map, length, take, get_or, decimal, codes, bytes_eq, lit<, lit≤, refl, sym, ◌∙◌}
 use Rattle.uz_cert_laws.proofs.Common.{ap, subst, append_assoc, append-nil, add-one, length-append, arith, Some, Ok, Err, slice_get}
 use Rattle.uz_cert_laws.proofs.Common.{slice_set, All-head, All-tail, decimal_digit, rises_from, rises, tracks, is_zero_or_one}

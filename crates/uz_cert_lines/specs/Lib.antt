@@ -1,3 +1,4 @@
+pub mod Comparisons
 pub mod Defaults
 pub mod FirstFault
 pub mod Forms

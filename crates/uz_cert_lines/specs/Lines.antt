@@ -8,6 +8,8 @@ use Rattle.uz_schedule.specs.declared.kinds.Response.{Response}
 use Rattle.uz_schedule.specs.declared.kinds.Response.TheVariants.{Four, Five}
 use Rattle.uz_schedule.specs.declared.kinds.Kind.{Kind}
 use Rattle.uz_schedule.specs.declared.kinds.Kind.TheVariants.{Main, Handler, Alone}
+use Rattle.uz_schedule.specs.declared.kinds.RuleVersion.{RuleVersion}
+use Rattle.uz_schedule.specs.declared.kinds.RuleVersion.TheVariants.{Two, Three}
 use Rattle.uz_schedule.specs.declared.kinds.Owner.{Owner}
 use Rattle.uz_schedule.specs.declared.kinds.Owner.TheVariants.{Main as MainCell, Handler as HandlerCell}
 use Rattle.uz_schedule.specs.declared.facts.Fact.{Fact}
@@ -31,13 +33,25 @@ use Rattle.uz_cert_lines.specs.declared.lines.PointPlace.{PointPlace}
 use Rattle.uz_cert_lines.specs.declared.lines.ParsedLine.TheVariants as parsed
 use Rattle.uz_cert_lines.specs.declared.lines.Sizes.{Sizes}
 use Rattle.uz_cert_lines.specs.declared.version.Version.{Version}
-use Rattle.uz_cert_lines.specs.declared.version.Version.TheVariants.{First, Second}
+use Rattle.uz_cert_lines.specs.declared.version.Version.TheVariants.{First, Second, Third}
 use Rattle.uz_cert_lines.specs.declared.why.CertWhy.TheVariants as why
 
 -- the first line of each text of a version
 abbrev pub head_line : Version → List ℕ
 head_line First = codes "uzcert 1"
 head_line Second = codes "uzcert 2"
+head_line Third = codes "uzcert 3"
+
+-- the rules by which a certificate with a text of a version is judged
+abbrev pub rules_of : Version → RuleVersion
+rules_of First = Two
+rules_of Second = Two
+rules_of Third = Three
+
+-- the version of the text of a certificate that is judged by these rules
+abbrev pub text_version : RuleVersion → Version
+text_version Two = Second
+text_version Three = Third
 
 -- a number from low on and below limit
 abbrev pub within : ℕ → ℕ → NumberBounds
@@ -110,6 +124,7 @@ length_for events =
 abbrev pub IsLengthIn : Version → ℕ → Type 0
 IsLengthIn First clocks = clocks ≡ scanline
 IsLengthIn Second clocks = IsTrue (is_length clocks)
+IsLengthIn Third clocks = IsTrue (is_length clocks)
 
 -- a kind of so many events and of this length
 pub record KindLineFits (version : Version) (k : KindLine) : Type 0 where
@@ -120,6 +135,7 @@ pub record KindLineFits (version : Version) (k : KindLine) : Type 0 where
 abbrev pub kind_after : Version → ℕ → LineForm
 kind_after First events = finish (parsed.Kind (record { events = events; clocks = scanline }))
 kind_after Second events = number (length_for events) (λ clocks. finish (parsed.Kind (record { events = events; clocks = clocks })))
+kind_after Third events = number (length_for events) (λ clocks. finish (parsed.Kind (record { events = events; clocks = clocks })))
 
 -- kind EVENTS LENGTH, and in version 1 kind EVENTS
 abbrev pub kind_form : Version → LineForm
@@ -163,7 +179,7 @@ none_in_main Handler limit = limit
 none_in_main Alone limit = limit
 
 abbrev pub shape_of : Head → Kind → Bool → ℕ → Shape
-shape_of h kind plain points = record { kind = kind; plain = plain; timed = false; points = points; depth = depth_of h kind }
+shape_of h kind plain points = record { kind = kind; plain = plain; timed = false; compares = false; points = points; depth = depth_of h kind }
 
 -- a range that a fact of an entry says
 abbrev pub span_of_fact : Fact → Ends
@@ -213,18 +229,28 @@ pending_limit Alone = 1
 abbrev pub count_limit : Kind → ℕ → ℕ → ℕ → ℕ → ℕ
 count_limit kind left l0 l1 c0 = least_of (none_in_main kind 256) (c0 + left / (l1 - l0 + 1))
 
--- the items of the timer stand in the handler's points, in version 2
+-- the items of the timer stand in the handler's points, from version 2 on
 abbrev pub is_timed : Version → Kind → Bool
 is_timed First kind = false
 is_timed Second kind = is_handler kind
+is_timed Third kind = is_handler kind
+
+-- what the flags tell, and a register of a cover, stand in main's points, by the rules of version 3
+abbrev pub is_compared : RuleVersion → Kind → Bool
+is_compared Two kind = false
+is_compared Three Main = true
+is_compared Three Handler = false
+is_compared Three Alone = false
 
 abbrev pub point_shape : Version → Head → Kind → ℕ → Shape
-point_shape version h kind points = record (shape_of h kind false points) { timed = is_timed version kind }
+point_shape version h kind points =
+    record (shape_of h kind false points) { timed = is_timed version kind; compares = is_compared h.version kind }
 
 -- the points that a text says: in version 1 nothing is said of the timer
 abbrev pub IsPointIn : Version → Point → Type 0
 IsPointIn First p = IsTimerLeftOut p
 IsPointIn Second p = ⊤
+IsPointIn Third p = ⊤
 
 -- point KIND PC L0 L1 C0 C1 CLOCK SLOPE PENDING ITEMS
 unfoldable pub point_after : Version → Head → ℕ → ℕ → ℕ → Kind → LineForm

@@ -1,6 +1,6 @@
 //! The items of a line: what is said of registers, pairs, flags, slots, cells and the timer, and which points follow.
 
-ghost use Rattle.std.specs.Prelude.{◌≡◌, ◌<◌, ◌≤◌, ◌-◌, ◌^◌, IfOk, IfErr, IfSome, Ok, Err, length, slice_set};
+ghost use Rattle.std.specs.Prelude.{◌≡◌, ◌<◌, ◌≤◌, ◌-◌, ◌^◌, IfOk, IfErr, IfSome, Ok, Err, Some, length, slice_set};
 ghost use Rattle.uz_cert_lines.specs.Values.{RawBelow};
 ghost use Rattle.uz_cert_lines.specs.Items.{first_facts as first_facts_of, in_order as in_order_of};
 ghost use Rattle.uz_cert_lines.specs.Items.{bytes_forms as bytes_forms_of, register_set as set_register};
@@ -10,11 +10,13 @@ ghost use Rattle.uz_cert_lines.specs.Items.{take_slot as slot_taken, tracked_bef
 ghost use Rattle.uz_cert_lines.specs.Items.{cell_forms as forms_of_cell, numbered as numbered_of, cell_set as set_cell};
 ghost use Rattle.uz_cert_lines.specs.Items.{cell_value as value_of_cell, take_cell as cell_taken, successor_set as set_successor};
 ghost use Rattle.uz_cert_lines.specs.Items.{take_numbered, take_named_value as value_of_name};
-ghost use Rattle.uz_cert_lines.specs.Named.{temp_forms as forms_of_temp, value_read, top_item, temp_item, point_of as point_of_facts};
+ghost use Rattle.uz_cert_lines.specs.Named.{temp_forms as forms_of_temp, value_read, top_item, temp_item, flags_item, split_item};
+ghost use Rattle.uz_cert_lines.specs.Named.{point_of as point_of_facts};
 ghost use Rattle.uz_cert_lines.specs.Items.{take_successor as successor_taken, is_flag_z as z_is_flag};
 ghost use Rattle.uz_cert_lines.specs.Items.{take_letter as letter_taken, take_keyed as keyed_taken, take_named as named_taken};
 ghost use Rattle.uz_cert_lines.specs.Items.{take_second as second_taken, take_item as item_taken, read_items as items_read};
 
+use crate::comparisons::{comparison, is_nothing};
 use crate::defaults::{
     default_cells, default_flag, default_regs, is_any_pair, is_default, is_default_flag,
     is_handler, is_range, tracks,
@@ -25,7 +27,7 @@ use crate::{
     span_of,
 };
 use arrayvec::ArrayVec;
-use uz_schedule::{Bit, Cell, Fact, Kind, PairFact, Point, SCANLINE, Span, is_top};
+use uz_schedule::{Bit, Cell, Compared, Fact, Kind, PairFact, Point, SCANLINE, Span, is_top};
 
 /// What the items of a line may say.
 #[derive(Clone, Copy)]
@@ -36,6 +38,8 @@ pub struct Shape {
     pub plain: bool,
     /// Whether the items of the timer may stand there.
     pub timed: bool,
+    /// Whether what the flags tell, and the register of a cover, may stand there.
+    pub compares: bool,
     /// How many points there are.
     pub points: u32,
     /// How many slots of the stack there may be, at most 32.
@@ -63,6 +67,10 @@ pub struct Facts {
     pub top: u16,
     /// The values that the timer's TEMP may have.
     pub temp: Span,
+    /// What the flags tell.
+    pub compared: Compared,
+    /// The register by whose values a result is covered, if any.
+    pub split: Option<u8>,
     /// The numbers of the points where an instruction may lead, rising.
     pub next: ArrayVec<u32, 16>,
 }
@@ -83,6 +91,8 @@ fn first_facts(kind: Kind, cells: &[Cell]) -> Facts
         cells: default_cells(kind, cells),
         top: SCANLINE - 1,
         temp: Span::between(0, 255),
+        compared: Compared::Nothing,
+        split: None,
         next: ArrayVec::new(),
     }
 }
@@ -464,6 +474,54 @@ fn take_temp(shape: Shape, facts: &mut Facts, value: &[u8]) -> Result<(), CertWh
     Ok(())
 }
 
+/// A word of what the flags tell.
+fn read_compared(value: &[u8]) -> Result<Compared, CertWhy>
+    ensures { result ≡ value_read flags_item.form value.now }
+{
+    comparison(value)
+}
+
+/// `flags=V`, of which this is V.
+#[tactic(auto, unfolding(crate::specs::Items::take_value))]
+fn take_compared(shape: Shape, facts: &mut Facts, value: &[u8]) -> Result<(), CertWhy>
+    ensures ok { IfOk result (λ _. take_numbered 2 shape facts.old value.now ≡ Ok facts.new) }
+    ensures err { IfErr result (λ e. take_numbered 2 shape facts.old value.now ≡ Err e) }
+{
+    if !shape.compares {
+        return Err(CertWhy::Word);
+    }
+    let compared = read_compared(value)?;
+    in_order(facts, 61, is_nothing(&compared))?;
+    facts.compared = compared;
+    facts.least = 62;
+    Ok(())
+}
+
+/// A word of a register by whose values a result is covered.
+fn read_split(value: &[u8]) -> Result<u8, CertWhy>
+    ensures ok { IfOk result (λ r. value_read split_item.form value.now ≡ Ok (Some r)) }
+    ensures err { IfErr result (λ e. value_read split_item.form value.now ≡ Err e) }
+{
+    let register = one_number(0, 32, value)?;
+    Ok(register as u8)
+}
+
+/// `split=R`, of which this is R.
+#[tactic(auto, unfolding(crate::specs::Items::take_value))]
+fn take_split(shape: Shape, facts: &mut Facts, value: &[u8]) -> Result<(), CertWhy>
+    ensures ok { IfOk result (λ _. take_numbered 3 shape facts.old value.now ≡ Ok facts.new) }
+    ensures err { IfErr result (λ e. take_numbered 3 shape facts.old value.now ≡ Err e) }
+{
+    if !shape.compares {
+        return Err(CertWhy::Word);
+    }
+    let register = read_split(value)?;
+    in_order(facts, 62, false)?;
+    facts.split = Some(register);
+    facts.least = 63;
+    Ok(())
+}
+
 /// The items of one value that have a name, of which these are the name and the value.
 fn take_named_value(
     shape: Shape,
@@ -479,6 +537,12 @@ fn take_named_value(
     }
     if key == b"temp".as_slice() {
         return take_temp(shape, facts, value);
+    }
+    if key == b"flags".as_slice() {
+        return take_compared(shape, facts, value);
+    }
+    if key == b"split".as_slice() {
+        return take_split(shape, facts, value);
     }
     Err(CertWhy::Word)
 }
@@ -501,6 +565,8 @@ pub(crate) fn point_of(place: PointPlace, facts: Facts) -> Point
         regs: same_regs(&facts.regs),
         pairs: same_pairs(&facts.pairs),
         flags: facts.flags,
+        compared: facts.compared,
+        split: facts.split,
         stack: facts.stack,
         cells: facts.cells,
         top: facts.top,
@@ -522,7 +588,7 @@ fn successor_set(facts: &mut Facts, id: Option<u32>) -> Result<(), CertWhy>
             }
             facts.next.push(id);
             facts.after = id + 1;
-            facts.least = 61;
+            facts.least = 63;
             Ok(())
         }
         None => Err(CertWhy::Unknown),

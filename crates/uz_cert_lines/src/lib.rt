@@ -1,6 +1,7 @@
 //! The items and the lines of a certificate's text.
 #![tactic(auto)]
 
+mod comparisons;
 mod defaults;
 mod items;
 mod laws;

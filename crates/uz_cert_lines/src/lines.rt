@@ -10,7 +10,8 @@ ghost use Rattle.uz_cert_lines.specs.Lines.{fall_form, run_form, rest_form};
 ghost use Rattle.uz_cert_lines.specs.Lines.{entry_form, point_form, end_form, within as within_limits};
 ghost use Rattle.uz_cert_lines.specs.Lines.{least_of as lesser_of, response_of as response_of_clocks};
 ghost use Rattle.uz_cert_lines.specs.Lines.{owner_of as owner_of_place, off_stack as off_the_stack, none_in_main as none_of_main};
-ghost use Rattle.uz_cert_lines.specs.Lines.{shape_of as shape_of_kind, is_timed as has_timer, point_shape as shape_of_point};
+ghost use Rattle.uz_cert_lines.specs.Lines.{shape_of as shape_of_kind, is_timed as has_timer, is_compared as has_compared};
+ghost use Rattle.uz_cert_lines.specs.Lines.{point_shape as shape_of_point};
 ghost use Rattle.uz_cert_lines.specs.Lines.{span_of_fact as ends_of_fact};
 ghost use Rattle.uz_cert_lines.specs.Lines.{entry_of as entry_of_facts, entry_kind as kind_of_entry, point_kind as kind_of_point};
 ghost use Rattle.uz_cert_lines.specs.Lines.{pending_limit as limit_of_pending, count_limit as limit_of_count};
@@ -26,7 +27,7 @@ use crate::{CertWhy, NumberBounds, Words};
 use arrayvec::ArrayVec;
 use uz_schedule::{
     CLOCK_LIMIT, Cell, Entry, Event, EventKind, Fact, HALF_LINE, Head, Kind, MOST_EVENTS, Owner,
-    PairFact, Point, Response, Rest, SCANLINE, Span, Wide,
+    PairFact, Point, Response, Rest, RuleVersion, SCANLINE, Span, Wide,
 };
 
 /// Each clock of a text is below this.
@@ -264,7 +265,7 @@ fn kind_after(version: Version, events: u32, words: &mut Words) -> Result<Parsed
                 clocks: SCANLINE,
             }),
         ),
-        Version::Second => {
+        Version::Second | Version::Third => {
             let clocks = words.number(length_for(events))? as u16;
             at_end(words, ParsedLine::Kind(KindLine { events, clocks }))
         }
@@ -434,6 +435,7 @@ fn shape_of(head: &Head, kind: Kind, plain: bool, points: u32) -> Shape
         kind,
         plain,
         timed: false,
+        compares: false,
         points,
         depth: usize::from(depth_of(head, kind)),
     }
@@ -547,13 +549,28 @@ fn point_kind(place: u32) -> Kind
     }
 }
 
-/// The items of the timer stand in the handler's points, in version 2.
+/// The items of the timer stand in the handler's points, from version 2 on.
 fn is_timed(version: Version, kind: Kind) -> bool
     ensures { result ≡ has_timer version kind }
 {
     match version {
         Version::First => false,
         Version::Second => is_handler(kind),
+        Version::Third => is_handler(kind),
+    }
+}
+
+/// What the flags tell, and a register of a cover, stand in main's points, by the rules of version 3.
+fn is_compared(version: RuleVersion, kind: Kind) -> bool
+    ensures { result ≡ has_compared version kind }
+{
+    match version {
+        RuleVersion::Two => false,
+        RuleVersion::Three => match kind {
+            Kind::Main => true,
+            Kind::Handler => false,
+            Kind::Alone => false,
+        },
     }
 }
 
@@ -562,6 +579,7 @@ fn point_shape(version: Version, head: &Head, kind: Kind, points: u32) -> Shape
 {
     Shape {
         timed: is_timed(version, kind),
+        compares: is_compared(head.version, kind),
         ..shape_of(head, kind, false, points)
     }
 }
@@ -719,7 +737,7 @@ fn point_after(
 }
 
 /// `point KIND PC L0 L1 C0 C1 CLOCK SLOPE PENDING ITEMS`, where so many instances are left. In version 1 no item is one of
-/// the timer.
+/// the timer. `flags=` and `split=` stand only where the head has the rules of version 3.
 pub fn point_line(
     version: Version,
     head: &Head,

@@ -4,7 +4,10 @@ use Rattle.std.specs.Prelude.{codes}
 use Rattle.std.specs.List.{join_with_byte}
 use Rattle.uz_schedule.specs.declared.lines.Event.{Event}
 use Rattle.uz_schedule.specs.declared.certificate.Cert.{Cert}
-use Rattle.uz_cert_lines.specs.declared.version.Version.TheVariants.{Second}
+use Rattle.uz_schedule.specs.declared.kinds.RuleVersion.{RuleVersion}
+use Rattle.uz_schedule.specs.declared.kinds.RuleVersion.TheVariants.{Two, Three}
+use Rattle.uz_cert_lines.specs.Lines.{head_line, text_version}
+use Rattle.uz_cert_lines.specs.declared.version.Version.TheVariants.{Second, Third}
 use Rattle.uz_cert_writer.specs.Spelling.{line_of, kind_words, event_words, fall_words, kinds_then, runs_of, size_words, irq_words}
 use Rattle.uz_cert_writer.specs.Spelling.{stack_words, cell_words, rest_words, entry_words, point_words, spelling}
 use Rattle.uz_cert_writer.specs.Joined.{spaced, ended, line_end, run_lines, head_text, schedule_text, state_text}
@@ -51,7 +54,24 @@ pub kinds_ended : (kinds : List (List Event)) (lengths : List ℕ) (others : Lis
 kinds_ended kinds lengths others =
     ap ended (kinds_append kinds lengths [] others) ∙ ended_append (kinds_then Second kinds lengths []) others
 
+-- the kinds of line are spelled alike from version 2 on
+
+third_kinds : (kinds : List (List Event)) (lengths : List ℕ) (others : List (List ℕ))
+    → kinds_then Third kinds lengths others ≡ kinds_then Second kinds lengths others
+third_kinds [] lengths others = refl
+third_kinds (events ∷ kinds) [] others = refl
+third_kinds (events ∷ kinds) (n ∷ lengths) others =
+    ap (λ t. line_of (kind_words Second (length events) n) ∷ (event_lines events ++ t)) (third_kinds kinds lengths others)
+
+same_kinds : (version : RuleVersion) (kinds : List (List Event)) (lengths : List ℕ) (others : List (List ℕ))
+    → kinds_then (text_version version) kinds lengths others ≡ kinds_then Second kinds lengths others
+same_kinds Two kinds lengths others = refl
+same_kinds Three kinds lengths others = third_kinds kinds lengths others
+
 -- the whole text
+
+abbrev head_of : Cert → List ℕ
+head_of c = head_line (text_version c.head.version)
 
 abbrev states : Cert → List (List ℕ) → List (List ℕ)
 states c last =
@@ -65,7 +85,7 @@ after_cells c last =
 
 abbrev lines_to : Cert → List (List ℕ) → List (List ℕ)
 lines_to c last =
-    codes "uzcert 2" ∷ line_of (size_words c) ∷ line_of (irq_words c.head) ∷ line_of (stack_words c.head)
+    head_of c ∷ line_of (size_words c) ∷ line_of (irq_words c.head) ∷ line_of (stack_words c.head)
     ∷ (map (λ m. line_of (cell_words m)) c.head.cells.items ++ after_cells c last)
 
 states_more : (c : Cert) (xs ys : List (List ℕ)) → states c (xs ++ ys) ≡ states c xs ++ ys
@@ -86,7 +106,7 @@ after_more c xs ys =
 lines_more : (c : Cert) (xs ys : List (List ℕ)) → lines_to c (xs ++ ys) ≡ lines_to c xs ++ ys
 lines_more c xs ys =
     let cells = map (λ m. line_of (cell_words m)) c.head.cells.items in
-    ap (λ t. codes "uzcert 2" ∷ line_of (size_words c) ∷ line_of (irq_words c.head) ∷ line_of (stack_words c.head) ∷ t)
+    ap (λ t. head_of c ∷ line_of (size_words c) ∷ line_of (irq_words c.head) ∷ line_of (stack_words c.head) ∷ t)
     (ap (λ t. cells ++ t) (after_more c xs ys) ∙ sym (append_assoc cells (after_cells c xs) ys))
 
 states_ended : (c : Cert) → ended (states c (codes "end" ∷ [])) ≡ state_text c
@@ -111,7 +131,7 @@ after_ended c last =
     ∙ ap (λ t. kinds ++ t) (append_assoc fall (ended runs) (ended (states c last))))
 
 head_ended : (c : Cert) (after : List (List ℕ))
-    → ended (codes "uzcert 2" ∷ line_of (size_words c) ∷ line_of (irq_words c.head) ∷ line_of (stack_words c.head)
+    → ended (head_of c ∷ line_of (size_words c) ∷ line_of (irq_words c.head) ∷ line_of (stack_words c.head)
     ∷ (map (λ m. line_of (cell_words m)) c.head.cells.items ++ after))
     ≡ head_text c ++ ended after
 head_ended c after =
@@ -119,7 +139,9 @@ head_ended c after =
     let size = line_end (size_words c) in
     let irq = line_end (irq_words c.head) in
     let stack = line_end (stack_words c.head) in
-    ap (λ t. codes "uzcert 2" ++ (10 ∷ t))
+    let after_head = line_of (size_words c) ∷ line_of (irq_words c.head) ∷ line_of (stack_words c.head) ∷ (cells ++ after) in
+    sym (line_ended (head_of c ∷ []) after_head)
+    ∙ ap (λ t. line_end (head_of c ∷ []) ++ t)
     (sym (line_ended (size_words c) (line_of (irq_words c.head) ∷ line_of (stack_words c.head) ∷ (cells ++ after)))
     ∙ ap (λ t. size ++ t)
     (sym (line_ended (irq_words c.head) (line_of (stack_words c.head) ∷ (cells ++ after)))
@@ -129,11 +151,17 @@ head_ended c after =
     ∙ sym (append_assoc stack (ended cells) (ended after)))
     ∙ sym (append_assoc irq (stack ++ ended cells) (ended after)))
     ∙ sym (append_assoc size (irq ++ (stack ++ ended cells)) (ended after)))
+    ∙ sym (append_assoc (line_end (head_of c ∷ [])) (size ++ (irq ++ (stack ++ ended cells))) (ended after))
 
 -- the text in three parts
-pub spelling_parts : (c : Cert) → spelling Second c ≡ head_text c ++ (schedule_text c.schedule ++ state_text c)
+pub spelling_parts : (c : Cert) → spelling (text_version c.head.version) c ≡ head_text c ++ (schedule_text c.schedule ++ state_text c)
 spelling_parts c =
-    ap (join_with_byte 10) (lines_more c (codes "end" ∷ []) ([] ∷ []))
+    let fall = line_of (fall_words c.schedule) in
+    let later = run_lines (runs_of c.schedule.lines) ++ states c (codes "end" ∷ [] ∷ []) in
+    ap (λ t. join_with_byte 10 (head_of c ∷ line_of (size_words c) ∷ line_of (irq_words c.head) ∷ line_of (stack_words c.head)
+    ∷ (map (λ m. line_of (cell_words m)) c.head.cells.items ++ t)))
+    (same_kinds c.head.version c.schedule.kinds c.schedule.lengths (fall ∷ later))
+    ∙ ap (join_with_byte 10) (lines_more c (codes "end" ∷ []) ([] ∷ []))
     ∙ join_lines (lines_to c (codes "end" ∷ []))
     ∙ head_ended c (after_cells c (codes "end" ∷ []))
     ∙ ap (λ t. head_text c ++ t) (after_ended c (codes "end" ∷ []) ∙ ap (λ t. schedule_text c.schedule ++ t) (states_ended c))

@@ -11,6 +11,7 @@ use Rattle.uz_cert_writer.specs.Spelling.{line_of, kind_word, signed_word, truth
 use Rattle.uz_cert_lines.specs.Named.{NamedItem, named_items, NamedValues, values_of}
 use Rattle.uz_cert_writer.specs.Spelling.{cell_items, value_items, successor_items, range_facts, ends_word, size_words, irq_words, stack_words, cell_words}
 use Rattle.uz_cert_writer.specs.Spelling.{fall_words}
+use Rattle.uz_cert_lines.specs.Lines.{head_line, text_version}
 use Rattle.uz_cert_lines.specs.declared.version.Version.TheVariants.{Second}
 use Rattle.uz_cert_writer.specs.Spelling.{kinds_then, runs_of, run_words, rest_words, entry_words, point_words}
 
@@ -96,10 +97,10 @@ point_text cells p =
 -- the lines up to those of the cells
 abbrev pub head_text : Cert → List ℕ
 head_text c =
-    codes "uzcert 2\n" ++ (line_end (size_words c) ++ (line_end (irq_words c.head) ++ (line_end (stack_words c.head)
+    line_end (head_line (text_version c.head.version) ∷ []) ++ (line_end (size_words c) ++ (line_end (irq_words c.head) ++ (line_end (stack_words c.head)
     ++ ended (map (λ m. line_of (cell_words m)) c.head.cells.items))))
 
--- the lines of the schedule
+-- the lines of the schedule, which are the same from version 2 on
 abbrev pub schedule_text : Schedule → List ℕ
 schedule_text s = ended (kinds_then Second s.kinds s.lengths []) ++ (line_end (fall_words s) ++ ended (run_lines (runs_of s.lines)))
 

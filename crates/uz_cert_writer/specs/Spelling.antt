@@ -1,5 +1,6 @@
 -- The text of a certificate. Its lines end in LF (10), words stand apart by one space (32), numbers are decimal.
-use Rattle.std.specs.Prelude.{ℕ, zero, suc, ◌+◌, ◌==◌, ◌&&◌, Bool, true, false, ℤ, pos, negsuc, List, [], ◌∷◌, ◌++◌, map, length, codes, decimal}
+use Rattle.std.specs.Prelude.{ℕ, zero, suc, ◌+◌, ◌==◌, ◌&&◌, Bool, true, false, ℤ, pos, negsuc, List, [], ◌∷◌, ◌++◌, map, length, codes, decimal, Option}
+use Rattle.std.specs.Prelude.{Some, None}
 use Rattle.std.specs.Prelude.{if◌then◌else◌}
 use Rattle.std.specs.List.{join_with_byte}
 use Prim.Native.Char.{code}
@@ -10,10 +11,11 @@ use Rattle.uz_schedule.specs.declared.kinds.Kind.TheVariants.{Main, Handler, Alo
 use Rattle.uz_schedule.specs.Tracked.{tracks}
 use Rattle.uz_schedule.specs.WellFormed.{is_default_flag}
 use Rattle.uz_cert_lines.specs.Defaults.{is_default, is_any_pair, is_range, range_fact}
-use Rattle.uz_cert_lines.specs.Named.{ValueForm, a_number, a_range, ValueOf, is_usual, NamedItem, named_items, NamedValues, values_of}
+use Rattle.uz_cert_lines.specs.Named.{ValueForm, a_number, a_range, a_comparison, a_register, ValueOf, is_usual, NamedItem, named_items}
+use Rattle.uz_cert_lines.specs.Named.{NamedValues, values_of}
 use Rattle.uz_cert_lines.specs.Lines.{head_line}
 use Rattle.uz_cert_lines.specs.declared.version.Version.{Version}
-use Rattle.uz_cert_lines.specs.declared.version.Version.TheVariants.{First, Second}
+use Rattle.uz_cert_lines.specs.declared.version.Version.TheVariants.{First, Second, Third}
 use Rattle.uz_schedule.specs.declared.kinds.Owner.{Owner}
 use Rattle.uz_schedule.specs.declared.kinds.Owner.TheVariants.{Main as MainCell, Handler as HandlerCell}
 use Rattle.uz_schedule.specs.declared.facts.Fact.{Fact}
@@ -23,6 +25,9 @@ use Rattle.uz_schedule.specs.declared.facts.PairFact.TheVariants.{Any as AnyPair
 use Rattle.uz_schedule.specs.declared.facts.PairFact.TheVariants.{Loop as LoopPair}
 use Rattle.uz_schedule.specs.declared.facts.Bit.{Bit}
 use Rattle.uz_schedule.specs.declared.facts.Bit.TheVariants.{Zero, One, Free, Old as OldBit}
+use Rattle.uz_schedule.specs.declared.facts.Against.TheVariants.{Register, Constant}
+use Rattle.uz_schedule.specs.declared.facts.Compared.{Compared}
+use Rattle.uz_schedule.specs.declared.facts.Compared.TheVariants as told
 use Rattle.uz_schedule.specs.declared.header.Cell.{Cell}
 use Rattle.uz_schedule.specs.declared.header.Head.{Head}
 use Rattle.uz_schedule.specs.declared.lines.Event.{Event}
@@ -70,6 +75,33 @@ flag_word Zero = codes "0"
 flag_word One = codes "1"
 flag_word Free = codes "?"
 flag_word OldBit = codes "o"
+
+-- what the flags tell: a name, `:`, and numbers with commas between them
+
+abbrev pub two_word : ℕ → ℕ → List ℕ
+two_word a b = decimal a ++ code "," ∷ decimal b
+
+abbrev pub three_word : ℕ → ℕ → ℕ → List ℕ
+three_word a b c = decimal a ++ code "," ∷ two_word b c
+
+abbrev pub four_word : ℕ → ℕ → ℕ → ℕ → List ℕ
+four_word a b c d = decimal a ++ code "," ∷ three_word b c d
+
+abbrev pub comparison_word : Compared → List ℕ
+comparison_word told.Nothing = []
+comparison_word (told.Byte d (Register r)) = codes "cp:" ++ two_word d r
+comparison_word (told.Byte d (Constant k)) = codes "cpi:" ++ two_word d k
+comparison_word (told.Pair d (Register r) high) = codes "cpw:" ++ three_word d r high
+comparison_word (told.Pair d (Constant k) high) = codes "cpiw:" ++ three_word d k high
+comparison_word (told.Result d k old) = codes "sub:" ++ four_word d k old.lo old.hi
+comparison_word (told.PairResult d k old) = codes "subw:" ++ four_word d k old.lo old.hi
+comparison_word (told.Value d) = codes "tst:" ++ decimal d
+
+-- a register of a cover
+
+abbrev pub split_word : Option ℕ → List ℕ
+split_word None = []
+split_word (Some r) = decimal r
 
 -- items: what is said of registers, pairs, flags, slots, cells, and by items of one value; a default is left out
 
@@ -127,6 +159,8 @@ cell_items kind i (c ∷ cs) (f ∷ fs) =
 abbrev pub value_word : (form : ValueForm) → ValueOf form → List ℕ
 value_word (a_number limit may usual) n = decimal n
 value_word a_range e = range_word e
+value_word a_comparison compared = comparison_word compared
+value_word a_register register = split_word register
 
 abbrev pub value_item : (i : NamedItem) → ValueOf i.form → List ℕ
 value_item i x = item i.key (value_word i.form x)
@@ -160,10 +194,11 @@ owner_word HandlerCell = codes "handler"
 abbrev pub cell_words : Cell → List (List ℕ)
 cell_words c = codes "cell" ∷ decimal c.at ∷ owner_word c.owner ∷ decimal c.range.lo ∷ decimal c.range.hi ∷ []
 
--- version 2 says the length of a kind of line
+-- from version 2 on the text says the length of a kind of line
 abbrev pub length_words : Version → ℕ → List (List ℕ)
 length_words First clocks = []
 length_words Second clocks = decimal clocks ∷ []
+length_words Third clocks = decimal clocks ∷ []
 
 abbrev pub kind_words : Version → ℕ → ℕ → List (List ℕ)
 kind_words version events clocks = codes "kind" ∷ decimal events ∷ length_words version clocks

@@ -8,13 +8,14 @@ ghost use Rattle.uz_cert_writer.specs.Joined.{spaced, onward_text};
 ghost use Rattle.uz_cert_writer.specs.Spelling.{item, unless, fact_word, pair_word, flag_word, range_facts};
 ghost use Rattle.uz_cert_writer.specs.Spelling.{register_items, pair_items, flag_items, slot_items, cell_items};
 ghost use Rattle.uz_cert_writer.specs.Spelling.{value_items, successor_items};
-ghost use Rattle.uz_cert_lines.specs.Named.{top_item, temp_item};
+ghost use Rattle.uz_cert_lines.specs.Named.{top_item, temp_item, flags_item, split_item};
 
+use crate::comparisons::{add_comparison, is_nothing};
 use crate::facts::{add_fact, add_pair_fact, add_range, flag, range_fact};
 use crate::words::{add_byte, add_decimal, add_word};
 use arrayvec::ArrayVec;
 use std::alloc::AllocError;
-use uz_schedule::{Bit, Cell, Fact, Kind, PairFact, Point, SCANLINE, Span, tracks};
+use uz_schedule::{Bit, Cell, Compared, Fact, Kind, PairFact, Point, SCANLINE, Span, tracks};
 
 /// The letters of the pairs and of the flags.
 const PAIR_LETTERS: [u8; 3] = [b'x', b'y', b'z'];
@@ -220,6 +221,30 @@ fn add_temp(text: &mut Vec<u8>, temp: Span) -> Result<(), AllocError>
     add_range(text, u16::from(temp.lo()), u16::from(temp.hi()))
 }
 
+/// Adds the item of what the flags tell, unless that is nothing.
+fn add_compared(text: &mut Vec<u8>, compared: &Compared) -> Result<(), AllocError>
+    ensures { OnOk result (text.new.items ≡ text.old.items ++ spaced (value_items flags_item compared.now)) }
+{
+    if is_nothing(compared) {
+        return Ok(());
+    }
+    text.extend_from_slice(b" flags=")?;
+    add_comparison(text, compared)
+}
+
+/// Adds the item of the register by whose values a result is covered, if any.
+fn add_split(text: &mut Vec<u8>, split: Option<u8>) -> Result<(), AllocError>
+    ensures { OnOk result (text.new.items ≡ text.old.items ++ spaced (value_items split_item split)) }
+{
+    match split {
+        Some(register) => {
+            text.extend_from_slice(b" split=")?;
+            add_decimal(text, u32::from(register))
+        }
+        None => Ok(()),
+    }
+}
+
 /// Adds the items of successors.
 fn add_successors(text: &mut Vec<u8>, ids: &[u32]) -> Result<(), AllocError>
     ensures { OnOk result (text.new.items ≡ text.old.items ++ spaced (successor_items ids.now)) }
@@ -237,6 +262,8 @@ pub(crate) fn add_onward(text: &mut Vec<u8>, point: &Point) -> Result<(), AllocE
 {
     add_top(text, point.top)?;
     add_temp(text, point.temp)?;
+    add_compared(text, &point.compared)?;
+    add_split(text, point.split)?;
     add_successors(text, point.next.as_slice())
 }
 

@@ -1,6 +1,7 @@
 //! The text of a certificate.
 #![tactic(auto)]
 
+mod comparisons;
 mod facts;
 mod head_lines;
 mod items;

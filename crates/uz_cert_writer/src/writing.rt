@@ -1,27 +1,37 @@
 //! The text of a certificate.
 
-ghost use Rattle.std.specs.Prelude.{◌≡◌, ◌≤◌, ◌<◌, ◌++◌, ◌^◌, IfOk, OnOk, codes, length};
+ghost use Rattle.std.specs.Prelude.{◌≡◌, ◌≤◌, ◌<◌, ◌++◌, ◌∷◌, [], ◌^◌, IfOk, OnOk, codes, length};
 ghost use Rattle.uz_schedule.specs.Limits.{ScheduleFits};
 ghost use Rattle.uz_schedule.specs.WellFormed.{WellFormed};
-ghost use Rattle.uz_cert_lines.specs.declared.version.Version.TheVariants.{Second};
-ghost use Rattle.uz_cert_writer.specs.Joined.{head_text, schedule_text, state_text};
+ghost use Rattle.uz_cert_lines.specs.Lines.{head_line, text_version};
+ghost use Rattle.uz_cert_writer.specs.Joined.{head_text, line_end, schedule_text, state_text};
 ghost use Rattle.uz_cert_writer.specs.Spelling.{spelling};
 
 use crate::head_lines::{add_cell_lines, add_irq, add_size, add_stack};
 use crate::schedule_lines::{add_fall, add_kinds, add_runs};
 use crate::state_lines::{add_entry, add_points, add_rests};
 use std::alloc::{AllocError, Global};
-use uz_schedule::{Cert, Schedule};
+use uz_schedule::{Cert, RuleVersion, Schedule};
 
 /// The least number of bytes that the line of a point takes, `point main 0 0 0 0 0 0 0 0` with its LF.
 const POINT_BYTES: usize = 27;
+
+/// The first line of the text of a certificate that is judged by these rules, with its LF.
+fn first_line(version: RuleVersion) -> &'static [u8]
+    ensures { result.now ≡ line_end (head_line (text_version version) ∷ []) }
+{
+    match version {
+        RuleVersion::Two => b"uzcert 2\n",
+        RuleVersion::Three => b"uzcert 3\n",
+    }
+}
 
 /// Adds the first line and the lines of the head.
 fn add_head(text: &mut Vec<u8>, cert: &Cert) -> Result<(), AllocError>
     requires { WellFormed cert.now }
     ensures { OnOk result (text.new.items ≡ text.old.items ++ head_text cert.now) }
 {
-    text.extend_from_slice(b"uzcert 2\n")?;
+    text.extend_from_slice(first_line(cert.head.version))?;
     add_size(text, cert)?;
     add_irq(text, &cert.head)?;
     add_stack(text, &cert.head)?;
@@ -65,17 +75,17 @@ fn add_all(text: &mut Vec<u8>, cert: &Cert) -> Result<(), AllocError>
 /// Adds the text of a certificate.
 fn add_text(text: &mut Vec<u8>, cert: &Cert) -> Result<(), AllocError>
     requires { WellFormed cert.now }
-    ensures { OnOk result (text.new.items ≡ text.old.items ++ spelling Second cert.now) }
+    ensures { OnOk result (text.new.items ≡ text.old.items ++ spelling (text_version cert.now.head.version) cert.now) }
 {
     add_all(text, cert)?;
     Ok(())
 }
 
-/// The text, of version 2, of a certificate that is within the limits and orders of its text, `well_formed`. The one error is want of
-/// memory. The text is written in one pass, in time linear in its length.
+/// The text, of the version of its rules, of a certificate that is within the limits and orders of its text, `well_formed`. The one
+/// error is want of memory. The text is written in one pass, in time linear in its length.
 pub fn write_cert(alloc: Global, cert: &Cert) -> Result<Vec<u8>, AllocError>
     requires { WellFormed cert.now }
-    ensures { IfOk result (λ text. text.items ≡ spelling Second cert.now) }
+    ensures { IfOk result (λ text. text.items ≡ spelling (text_version cert.now.head.version) cert.now) }
 {
     let mut text = Vec::with_capacity(alloc, cert.points.len() * POINT_BYTES)?;
     add_text(&mut text, cert)?;

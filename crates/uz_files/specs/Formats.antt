@@ -3,11 +3,11 @@ use Rattle.std.specs.Prelude.{ℕ, List}
 use Rattle.avr_asm.specs.FirstFault.{IsFirstFault as IsSourceFault}
 use Rattle.avr_asm.specs.Relation.{IsAssembly}
 use Rattle.avr_text.specs.WhyNames.{asm_why_name}
-use Rattle.uz_cert.specs.Texts.{IsCertificateText, IsFirstFault as IsCertificateFault}
+use Rattle.uz_cert.specs.Texts.{IsCertificateText, IsFirstFault as IsCertificateFault, IsToldFault, IsToldText}
 use Rattle.uz_hex.specs.HexText.{IsHexOf, IsFirstFault as IsHexFault}
 use Rattle.uz_hex.specs.WhyNames.{hex_why_name}
 use Rattle.uz_cert_lines.specs.WhyNames.{cert_why_name}
-use Rattle.uz_cert_lines.specs.declared.version.Version.TheVariants.{First, Second}
+use Rattle.uz_cert_lines.specs.declared.version.Version.TheVariants.{First}
 use Rattle.uz_schedule.specs.declared.certificate.Cert.{Cert}
 use Rattle.uz_hex.specs.Lines.{lines_of}
 use Rattle.uz_pads.specs.Lines.{IsFirstFault as IsPadFault, IsRead}
@@ -24,14 +24,14 @@ RefusesSource = Refuses IsSourceFault asm_why_name
 abbrev pub RefusesHex : List ℕ → Fault → Type 0
 RefusesHex = Refuses IsHexFault hex_why_name
 
--- a certificate, in the version of its text that is written
+-- a certificate, in a version of its text that is written: 3 where the first line says so, and else 2
 abbrev pub SpellsCertificate : List ℕ → Cert → Type 0
-SpellsCertificate = IsCertificateText Second
+SpellsCertificate = IsToldText
 
 abbrev pub RefusesCertificate : List ℕ → Fault → Type 0
-RefusesCertificate = Refuses (IsCertificateFault Second) cert_why_name
+RefusesCertificate = Refuses IsToldFault cert_why_name
 
--- and in the version before it
+-- and in the version before them
 abbrev pub SpellsOldCertificate : List ℕ → Cert → Type 0
 SpellsOldCertificate = IsCertificateText First
 

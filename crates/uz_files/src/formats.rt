@@ -85,7 +85,7 @@ impl Format for HexText {
     }
 }
 
-/// The text of a certificate.
+/// The text of a certificate in version 2 or 3.
 pub struct CertificateText;
 
 impl Format for CertificateText {

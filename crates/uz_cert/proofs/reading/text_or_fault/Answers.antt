@@ -1,6 +1,8 @@
+use Rattle.uz_schedule.specs.declared.kinds.RuleVersion.TheVariants.{Two, Three}
 use Rattle.uz_cert.proofs.FitLaws.{text_fits}
 use Rattle.uz_cert.proofs.TextLaws.{LineLaw, decided, one_certificate, one_fault, not_both, text_certificate, certificate_text, text_fault}
 use Rattle.uz_cert.proofs.TextLaws.{fault_text}
+use Rattle.uz_cert.proofs.Told.{text_tells}
 use Rattle.uz_cert.proofs.reading.text_or_fault.Goals as goal
 
 pub returns : goal.returns
@@ -17,4 +19,6 @@ returns c =
       refused = text_fault law;
       faulty = fault_text law;
       fits = text_fits (record { again = c.said_lines.ensures.again; only = c.said_lines.ensures.only });
+      told_2 = text_tells Two;
+      told_3 = text_tells Three;
     }

@@ -1,16 +1,15 @@
-use Rattle.std.proofs.Common.{◌≡◌, ℕ, Bool, true, false, ◌&&◌, List, [], ◌∷◌, All, refl, sym, ◌∙◌, ap}
+use Rattle.std.proofs.Common.{◌≡◌, ℕ, List, sym, ◌∙◌, ap, subst}
 use Rattle.std.specs.Prelude.{Result, Ok}
-use Rattle.std.proofs.lemmas.List.Elements.{All-nil, All-cons}
-use Rattle.uz_schedule.specs.Limits.{is_length, clocks_below, lengths_fit}
 use Rattle.uz_schedule.specs.WellFormed.{WellFormed}
-use Rattle.uz_schedule.specs.declared.lines.Event.{Event}
-use Rattle.uz_schedule.specs.declared.states.Point.{Point}
-use Rattle.uz_cert_lines.specs.Lines.{IsLengthIn, IsPointIn}
-use Rattle.uz_cert_lines.specs.declared.version.Version.TheVariants.{First, Second}
 use Rattle.uz_schedule.specs.declared.certificate.Cert.{Cert}
+use Rattle.uz_schedule.specs.declared.kinds.RuleVersion.TheVariants.{Two}
+use Rattle.uz_cert_lines.specs.Lines.{text_version}
+use Rattle.uz_cert_lines.specs.declared.version.Version.TheVariants.{First, Second}
 use Rattle.uz_cert_writer.specs.Spelling.{spelling}
-use Rattle.uz_cert.specs.Reading.{Fault, cert_of_text}
+use Rattle.uz_cert.specs.Reading.{Fault, cert_of_text, cert_told, version_told}
+use Rattle.uz_cert.specs.Texts.{IsCertificateText, IsOfVersion, IsToldText, own_text}
 use Rattle.uz_cert.proofs.Lines.{LineSpelling}
+use Rattle.uz_cert.proofs.Told.{own_version, told_version, text_tells}
 use Rattle.uz_cert.proofs.WholeText.{spelling_read, text_spelled}
 use Rattle.uz_cert.proofs.text_laws.text_is_unique.Goals as goal
 
@@ -21,36 +20,44 @@ same_cert : (a b : Cert) → answer a ≡ answer b → a ≡ b
 same_cert a b e = cc
 
 pub returns : goal.returns
-returns c =
-    let l : LineSpelling = record { again = c.said_lines.ensures.again; only = c.said_lines.ensures.only } in
-    let text = c.text_or_fault.ensures in
-    let again : (x : Cert) → WellFormed x → cert_of_text Second (spelling Second x) ≡ answer x =
-    λ x w. spelling_read l Second x w
-    (record { lengths = each_length x.schedule.kinds x.schedule.lengths w.schedule.lengths; points = each_point x.points }) in
-    record {
-      read = text_spelled l;
-      again = spelling_read l;
-      again_2 = again;
-      spelled = λ v t x h. text_spelled l v t x (text.again v t x h);
-      is_text = λ v x w own. text.read v (spelling v x) x (spelling_read l v x w own);
-      is_text_2 = λ x w. text.read Second (spelling Second x) x (again x w);
-      once = λ x y w z e. same_cert x y (sym (again x w) ∙ (ap (cert_of_text Second) e ∙ again y z));
-      migrated = λ t x e. again x (text.fits First t x e).0;
-    }
+returns c = record {
+  read = text_spelled l;
+  read_own = read_own;
+  again = spelling_read l;
+  again_2 = again_2;
+  again_own = again_own;
+  spelled = λ v t x h. text_spelled l v t x (c.text_or_fault.ensures.again v t x h);
+  spelled_own = λ t x h. read_own t x (c.text_or_fault.ensures.again (version_told t) t x h);
+  is_text = λ v x w own. c.text_or_fault.ensures.read v (spelling v x) x (spelling_read l v x w own);
+  is_text_2 = λ x w two. c.text_or_fault.ensures.read Second (spelling Second x) x (again_2 x w two);
+  is_text_own = is_text_own;
+  once = λ x y w z e. same_cert x y (sym (again_own x w) ∙ (ap cert_told e ∙ again_own y z));
+  migrated = λ t x e. again_2 x (c.text_or_fault.ensures.fits First t x e).0 (c.text_or_fault.ensures.fits First t x e).1.rules;
+}
   where
-    and_true : (a b : Bool) → (a && b) ≡ true → (a ≡ true) × (b ≡ true)
-    and_true true b e = (refl, e)
-    and_true false b e = absurd cc
+    l : LineSpelling
+    l = record { again = c.said_lines.ensures.again; only = c.said_lines.ensures.only }
 
-    each_length : (kinds : List (List Event)) (lengths : List ℕ) → lengths_fit kinds lengths ≡ true → All (IsLengthIn Second) lengths
-    each_length [] [] h = All-nil (IsLengthIn Second)
-    each_length [] (n ∷ lengths) h = absurd cc
-    each_length (es ∷ kinds) [] h = absurd cc
-    each_length (es ∷ kinds) (n ∷ lengths) h =
-        let both = and_true (is_length n && clocks_below es n) (lengths_fit kinds lengths) h in
-        let this = and_true (is_length n) (clocks_below es n) both.0 in
-        All-cons (IsLengthIn Second) n lengths this.0 (each_length kinds lengths both.1)
+    again_2 : (x : Cert) → WellFormed x → x.head.version ≡ Two → cert_of_text Second (spelling Second x) ≡ answer x
+    again_2 x w two = spelling_read l Second x w (subst (λ rules. IsOfVersion (text_version rules) x) two (own_version x w))
 
-    each_point : (ps : List Point) → All (IsPointIn Second) ps
-    each_point [] = All-nil (IsPointIn Second)
-    each_point (p ∷ ps) = All-cons (IsPointIn Second) p ps tt (each_point ps)
+    again_of : (x : Cert) → WellFormed x → cert_of_text (text_version x.head.version) (own_text x) ≡ answer x
+    again_of x w = spelling_read l (text_version x.head.version) x w (own_version x w)
+
+    is_own : (x : Cert) → WellFormed x → IsCertificateText (text_version x.head.version) (own_text x) x
+    is_own x w = c.text_or_fault.ensures.read (text_version x.head.version) (own_text x) x (again_of x w)
+
+    tells : (x : Cert) → WellFormed x → version_told (own_text x) ≡ text_version x.head.version
+    tells x w = text_tells x.head.version (own_text x) x (is_own x w)
+
+    again_own : (x : Cert) → WellFormed x → cert_told (own_text x) ≡ answer x
+    again_own x w = ap (λ v. cert_of_text v (own_text x)) (tells x w) ∙ again_of x w
+
+    is_text_own : (x : Cert) → WellFormed x → IsToldText (own_text x) x
+    is_text_own x w = subst (λ v. IsCertificateText v (own_text x) x) (sym (tells x w)) (is_own x w)
+
+    read_own : (t : List ℕ) (x : Cert) → cert_told t ≡ answer x → t ≡ own_text x
+    read_own t x e =
+        let v = version_told t in
+        text_spelled l v t x e
+        ∙ ap (λ u. spelling u x) (told_version t ∙ ap text_version (sym (c.text_or_fault.ensures.fits v t x e).1.rules))

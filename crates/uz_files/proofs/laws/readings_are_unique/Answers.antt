@@ -1,10 +1,11 @@
 use Rattle.avr_asm.specs.FirstFault.{IsFirstFault as IsSourceFault}
 use Rattle.avr_text.specs.WhyNames.{asm_why_name}
-use Rattle.uz_cert.specs.Texts.{IsFirstFault as IsCertificateFault}
+use Rattle.uz_cert.specs.Reading.{version_told}
+use Rattle.uz_cert.specs.Texts.{IsFirstFault as IsCertificateFault, IsToldFault}
 use Rattle.uz_hex.specs.HexText.{IsFirstFault as IsHexFault}
 use Rattle.uz_hex.specs.WhyNames.{hex_why_name}
 use Rattle.uz_cert_lines.specs.WhyNames.{cert_why_name}
-use Rattle.uz_cert_lines.specs.declared.version.Version.TheVariants.{First, Second}
+use Rattle.uz_cert_lines.specs.declared.version.Version.TheVariants.{First}
 use Rattle.uz_hex.specs.Lines.{lines_of}
 use Rattle.uz_pads.specs.WhyNames.{pad_why_name}
 use Rattle.uz_files.specs.Formats.{HasPadFault}
@@ -24,9 +25,10 @@ returns c = record {
     apart = λ text image fault spells refuses. c.hex_or_fault.ensures.not_both text image fault.0 refuses.0 spells refuses.1;
   };
   certificate = record {
-    one = c.text_or_fault.ensures.one_certificate Second;
-    first = one_refusal (IsCertificateFault Second) cert_why_name (c.text_or_fault.ensures.one_fault Second);
-    apart = λ text cert fault spells refuses. c.text_or_fault.ensures.not_both Second text cert fault.0 refuses.0 spells refuses.1;
+    one = λ text. c.text_or_fault.ensures.one_certificate (version_told text) text;
+    first = one_refusal IsToldFault cert_why_name (λ text. c.text_or_fault.ensures.one_fault (version_told text) text);
+    apart = λ text cert fault spells refuses.
+        c.text_or_fault.ensures.not_both (version_told text) text cert fault.0 refuses.0 spells refuses.1;
   };
   old_certificate = record {
     one = c.text_or_fault.ensures.one_certificate First;
