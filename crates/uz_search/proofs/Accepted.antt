@@ -51,6 +51,6 @@ accepted image p found cert fits ended made schedule of = record {
           is_point = at;
           row = t.after.row;
           reads = subst (λ pc. IsReadAt image pc t.after.row) s.pc t.after.reads;
-          is = sym (ap (local_fail image cert point.next.items t.after.row) s.is ∙ passes_local image p found cert point.next.items
-              t.after.row s.x fits ended made s.node s.named t.after.reads);
+          is = sym (ap (local_fail image cert point.next.items point.split t.after.row) s.is ∙ passes_local image p found cert
+              point.next.items point.split t.after.row s.x fits ended made s.node s.named t.after.reads);
         }

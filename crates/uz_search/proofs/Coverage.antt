@@ -44,7 +44,7 @@ module _ (image : Flash) (program : Program) (fits : ProgramFits program) (nodes
   treated x node = s.treated node.0 x (slice_get_within nodes node.0 x node.1) node.1
 
   pub owed : (x : Instance) (node : Among nodes x) → x.kind ≢ Main → Owes program x (treated x node).next
-  owed x node apart = let t = treated x node in node_laws.owes image program fits x t.next (stands x node) apart t.after t.some
+  owed x node apart = let t = treated x node in node_laws.owes image program fits x t.next (stands x node) apart t.after (t.some apart)
 
   pub cleared : (x : Instance) (node : Among nodes x) → x.kind ≢ Main → Clear program x (treated x node).next
   cleared x node apart = let t = treated x node in node_laws.cleared image program x t.next (stands x node) apart t.clear

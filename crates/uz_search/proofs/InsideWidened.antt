@@ -1,26 +1,25 @@
 -- An instance lies in what widening makes of it.
 use Rattle.std.proofs.Common.{◌≡◌, ℕ, zero, suc, ◌≤◌, List, [], ◌∷◌, Bool, true, false, not, ◌&&◌, nat_le, nat_lt, refl, ap, ◌∙◌}
-use Rattle.std.proofs.Common.{length, slice_set, slice_index_or, if◌then◌else◌, arith}
-use Rattle.std.specs.Prelude.{⊤}
-use Rattle.std.proofs.lemmas.Bool.{eq-eqb}
+use Rattle.std.proofs.Common.{slice_set, slice_index_or, if◌then◌else◌, arith}
+use Rattle.std.specs.Prelude.{⊤, ◌+◌, max}
+use Rattle.std.proofs.lemmas.Bool.{and_parts, eq-eqb}
 use Rattle.std.proofs.lemmas.Bool.Decides.{nat_tests}
 use Rattle.uz_schedule.specs.Ends.{Ends, is_within, whole_byte, whole_pair}
-use Rattle.uz_schedule.specs.declared.facts.Bit.{Bit}
-use Rattle.uz_schedule.specs.declared.facts.Bit.TheVariants.{Zero, One, Free, Old as OldBit}
 use Rattle.uz_schedule.specs.declared.facts.Val.{Val}
 use Rattle.uz_schedule.specs.declared.facts.Val.TheVariants.{Range, Old, OldFlags}
 use Rattle.uz_schedule.specs.declared.states.Instance.{Instance}
 use Rattle.uz_transfer.specs.Refusals.{range_inside}
-use Rattle.uz_transfer.specs.Values.{flag_at, pair_at, span_at, value_at}
-use Rattle.uz_rules.specs.Inside.{all_below, cells_inside, flag_inside, flags_inside, inside, pairs_inside, registers_inside}
-use Rattle.uz_rules.specs.Inside.{place_of_itself, same_place, slots_inside, value_inside, PlaceHolds}
+use Rattle.uz_transfer.specs.Values.{pair_at, value_at}
+use Rattle.uz_rules.specs.Inside.{all_below, cells_inside, compared_inside, flags_inside, inside, pairs_inside, registers_inside}
+use Rattle.uz_rules.specs.Inside.{place_of_itself, same_place, slots_inside, value_inside, KnownInItself, PlaceHolds}
 use Rattle.uz_search.specs.declared.program.Program.{Program}
 use Rattle.uz_search.specs.declared.widening.Widening.{Widening}
 use Rattle.uz_search.specs.declared.widening.Widening.TheVariants.{Register, Pair}
 use Rattle.uz_search.specs.Widenings.{is_whole, widened_all, widened_by, widened_pair, widened_value}
+use Rattle.uz_search.specs.Loosened.{loosened, loosened_pair, loosened_register, loosened_value}
 use Rattle.uz_search.specs.Widened.{facts_at, widened}
 use Rattle.uz_search.proofs.Lists.{choose}
-use Rattle.uz_search.proofs.WidenedLaws.{SamePlace, widened_place, widened_rest}
+use Rattle.uz_search.proofs.WidenedLaws.{widened_place, widened_rest}
 
 -- Values
 
@@ -51,6 +50,9 @@ grows_then OldFlags (Range b) w h k = absurd h
 grows_then OldFlags (Old b) w h k = absurd h
 grows_then OldFlags OldFlags (Range c) h k = absurd k
 grows_then OldFlags OldFlags (Old c) h k = absurd k
+
+le_max : (a b : ℕ) → a ≤ max a b
+le_max a b = omega arith
 
 le_test : (a b : ℕ) → a ≤ b → nat_le a b ≡ true
 le_test a b h = grind (arith, nat_tests)
@@ -137,20 +139,57 @@ fact_wider (Pair n fact) x = choose (Wider x) (nat_lt n 3)
     })
     (wider_self x)
 
+wider_then : (x y z : Instance) → Wider x y → Wider y z → Wider x z
+wider_then x y z one all = record {
+  registers = λ j. grows_then (value_at x.regs j) (value_at y.regs j) (value_at z.regs j) (one.registers j) (all.registers j);
+  pairs = λ j. let a = one.pairs j in let b = all.pairs j in (omega (arith, a.0, b.0), omega (arith, a.1, b.1));
+}
+
 facts_wider : (facts : List Widening) (x : Instance) → Wider x (widened_all facts x)
 facts_wider [] x = wider_self x
-facts_wider (fact ∷ facts) x =
-    let one = fact_wider fact x in
-    let all = facts_wider facts (widened_by fact x) in
-    record {
-      registers = λ j. grows_then (value_at x.regs j) (value_at (widened_by fact x).regs j)
-          (value_at (widened_all facts (widened_by fact x)).regs j) (one.registers j) (all.registers j);
-      pairs = λ j. let a = one.pairs j in let b = all.pairs j in (omega (arith, a.0, b.0), omega (arith, a.1, b.1));
-    }
+facts_wider (fact ∷ facts) x = wider_then x (widened_by fact x) (widened_all facts (widened_by fact x)) (fact_wider fact x)
+    (facts_wider facts (widened_by fact x))
+
+-- Loosening
+
+loose_grows : (v : Val) → Grows v (loosened_value v)
+loose_grows (Range e) = (omega arith, le_max e.hi 255)
+loose_grows (Old r) = refl
+loose_grows OldFlags = tt
+
+-- each register grows
+abbrev AllGrow : List Val → List Val → Type 0
+AllGrow a b = (j : ℕ) → Grows (value_at a j) (value_at b j)
+
+all_then : (a b c : List Val) → AllGrow a b → AllGrow b c → AllGrow a c
+all_then a b c h k j = grows_then (value_at a j) (value_at b j) (value_at c j) (h j) (k j)
+
+register_loose : (r : ℕ) (regs : List Val) → AllGrow regs (loosened_register r regs)
+register_loose r regs j = set_grows regs r j (loosened_value (value_at regs r)) (loose_grows (value_at regs r))
+
+pair_loose : (pair : Ends) (d : ℕ) (regs : List Val) → AllGrow regs (loosened_pair pair d regs)
+pair_loose pair d regs = choose (AllGrow regs) (is_whole pair) (loosened_register (d + 1) (loosened_register d regs)) regs
+    (all_then regs (loosened_register d regs) (loosened_register (d + 1) (loosened_register d regs)) (register_loose d regs)
+    (register_loose (d + 1) (loosened_register d regs)))
+    (λ j. grows_self (value_at regs j))
+
+loosened_wider : (x : Instance) → Wider x (loosened x)
+loosened_wider x = record {
+  registers = all_then x.regs two (loosened x).regs
+      (all_then x.regs one two (pair_loose (pair_at x.pairs 0) 26 x.regs) (pair_loose (pair_at x.pairs 1) 28 one))
+      (pair_loose (pair_at x.pairs 2) 30 two);
+  pairs = λ j. spreads_self (pair_at x.pairs j);
+}
+  where
+    one : List Val
+    one = loosened_pair (pair_at x.pairs 0) 26 x.regs
+
+    two : List Val
+    two = loosened_pair (pair_at x.pairs 1) 28 one
 
 widened_wider : (p : Program) (x : Instance) → Wider x (widened p x)
 unfolding widened
-widened_wider p x = facts_wider (facts_at p x.pc) x
+widened_wider p x = wider_then x (loosened x) (widened p x) (loosened_wider x) (facts_wider (facts_at p x.pc) (loosened x))
 
 -- The test
 
@@ -159,42 +198,42 @@ unfolding all_below
 below_all zero test all = refl
 below_all (suc n) test all = λ i. below_all n test all i && all n i
 
-flag_self : (b : Bit) → flag_inside b b ≡ true
-flag_self Zero = refl
-flag_self One = refl
-flag_self Free = refl
-flag_self OldBit = refl
+-- what is known in an instance lies in it, part by part
+record InItself (x : Instance) : Type 0 where
+  temp : range_inside x.temp x.temp ≡ true
+  slots : slots_inside x.stack.items x.stack.items ≡ true
+  cells : cells_inside x.cells.items x.cells.items ≡ true
+  flags : flags_inside x.flags x.flags ≡ true
+  compared : compared_inside x.compared x.compared ≡ true
 
-pub inside_widened : PlaceHolds → (p : Program) (x : Instance) → inside x (widened p x) ≡ true
-inside_widened holds p x = λ i. place i && (temp i && (slots i && (cells i && (flags i && (pairs i && registers i)))))
+in_itself : KnownInItself → (x : Instance) → InItself x
+in_itself itself x =
+    let one = and_parts (range_inside x.temp x.temp) _ (itself x) in
+    let two = and_parts (slots_inside x.stack.items x.stack.items) _ one.1 in
+    let three = and_parts (cells_inside x.cells.items x.cells.items) _ two.1 in
+    let four = and_parts (flags_inside x.flags x.flags) _ three.1 in
+    let five = and_parts (compared_inside x.compared x.compared) _ four.1 in
+    record { temp = one.0; slots = two.0; cells = three.0; flags = four.0; compared = five.0 }
+
+pub inside_widened : PlaceHolds → KnownInItself → (p : Program) (x : Instance) → inside x (widened p x) ≡ true
+inside_widened holds itself p x =
+    let same = widened_place p x in
+    let known = in_itself itself x in
+    let temp : range_inside x.temp (widened p x).temp ≡ true = ap (range_inside x.temp) same.temp ∙ known.temp in
+    let slots : slots_inside x.stack.items (widened p x).stack.items ≡ true =
+    ap (λ s. slots_inside x.stack.items s.items) same.stack ∙ known.slots in
+    let cells : cells_inside x.cells.items (widened p x).cells.items ≡ true =
+    ap (λ c. cells_inside x.cells.items c.items) same.cells ∙ known.cells in
+    let flags : flags_inside x.flags (widened p x).flags ≡ true = ap (flags_inside x.flags) same.flags ∙ known.flags in
+    let compared : compared_inside x.compared (widened p x).compared ≡ true =
+    ap (compared_inside x.compared) same.compared ∙ known.compared in
+    λ i. place i && (temp i && (slots i && (cells i && (flags i && (compared i && (pairs i && registers i))))))
   where
-    same : SamePlace (widened p x) x
-    same = widened_place p x
-
     wide : Wider x (widened p x)
     wide = widened_wider p x
 
     place : same_place x (widened p x) ≡ true
     place = ap (same_place x) (widened_rest p x) ∙ holds x x (place_of_itself x)
-
-    temp : range_inside x.temp (widened p x).temp ≡ true
-    temp = ap (range_inside x.temp) same.temp ∙ range_grown x.temp x.temp (omega arith) (omega arith)
-
-    slots : slots_inside x.stack.items (widened p x).stack.items ≡ true
-    slots = ap (λ s. slots_inside x.stack.items s.items) same.stack
-        ∙ (λ i. eq-eqb (length x.stack.items) (length x.stack.items) refl i
-        && below_all (length x.stack.items) (λ j. value_inside (value_at x.stack.items j) (value_at x.stack.items j))
-        (λ j. grows_inside (value_at x.stack.items j) (value_at x.stack.items j) (grows_self (value_at x.stack.items j))) i)
-
-    cells : cells_inside x.cells.items (widened p x).cells.items ≡ true
-    cells = ap (λ c. cells_inside x.cells.items c.items) same.cells
-        ∙ (λ i. eq-eqb (length x.cells.items) (length x.cells.items) refl i
-        && below_all (length x.cells.items) (λ j. range_inside (span_at x.cells.items j) (span_at x.cells.items j))
-        (λ j. range_grown (span_at x.cells.items j) (span_at x.cells.items j) (omega arith) (omega arith)) i)
-
-    flags : flags_inside x.flags (widened p x).flags ≡ true
-    flags = ap (flags_inside x.flags) same.flags ∙ below_all 7 (λ k. flag_inside (flag_at x.flags k) (flag_at x.flags k))
-        (λ k. flag_self (flag_at x.flags k))
 
     pairs : pairs_inside x.pairs (widened p x).pairs ≡ true
     pairs = below_all 3 (λ k. range_inside (pair_at x.pairs k) (pair_at (widened p x).pairs k)) (λ k. let h = wide.pairs k in

@@ -22,6 +22,7 @@ pub mod ChainLemmas
 pub mod PlaceLemmas
 pub mod Accepted
 pub mod Closing
+pub mod ComparedLimits
 pub mod Coverage
 pub mod Frame
 pub mod InsideWidened
@@ -30,6 +31,7 @@ pub mod KnownCells
 pub mod KnownStep
 pub mod Levels
 pub mod LocalHolds
+pub mod Loosening
 pub mod NewFlags
 pub mod NodeLaws
 pub mod Positions

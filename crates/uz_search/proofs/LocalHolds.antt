@@ -25,7 +25,10 @@ use Rattle.uz_schedule.specs.declared.states.Instance.{Instance}
 use Rattle.uz_transfer.specs.declared.fail.Fail.{Fail}
 use Rattle.uz_transfer.specs.declared.fail.Fail.TheVariants.{Opcode, Edge, Clock, Restore, Successor}
 use Rattle.uz_transfer.specs.declared.step.Exit.{Exit}
+use Rattle.uz_transfer.specs.Narrowed.{narrowed, test_of}
 use Rattle.uz_transfer.specs.declared.step.Step.{Step}
+use Rattle.uz_transfer.specs.declared.step.Test.{Test}
+use Rattle.uz_transfer.specs.declared.step.Test.TheVariants as asks
 use Rattle.uz_transfer.specs.Kinds.{is_main}
 use Rattle.uz_transfer.specs.Emission.{emission}
 use Rattle.uz_transfer.specs.Exits.{outcomes}
@@ -34,12 +37,13 @@ use Rattle.uz_transfer.specs.Refusals.{fail_of, range_inside, refuse_if}
 use Rattle.uz_transfer.specs.Step.{IsReadAt, following_of, step_of_row, step_unless, successor}
 use Rattle.uz_transfer.specs.Values.{span_at}
 use Rattle.uz_rules.specs.declared.next.Next.{Next}
-use Rattle.uz_rules.specs.After.{timed, next_of}
+use Rattle.uz_rules.specs.After.{timed, next_of, results_of}
 use Rattle.uz_rules.specs.EdgeRule.{position_of, is_kind, is_event, is_quiet, emits_as_scheduled, each_exit, edges_fit}
 use Rattle.uz_rules.specs.Inside.{all_below, cells_inside, restored}
 use Rattle.uz_rules.specs.Local.{compares_edges, end_of, first_exit, has_successors, instance_fail, is_no_opcode, is_stop, rest_in}
-use Rattle.uz_rules.specs.Local.{result_fail, return_fail, row_emits_in_main, step_fail}
-use Rattle.uz_rules.specs.Successors.{lies_in_any}
+use Rattle.uz_rules.specs.Local.{passes, result_fail, return_fail, row_emits_in_main, step_fail}
+use Rattle.uz_rules.proofs.AfterLaws.{results_plain}
+use Rattle.uz_rules.proofs.AskedLaws.{asks_none}
 use Rattle.uz_rules.proofs.LocalLaws.{decoded_same}
 use Rattle.uz_search.specs.declared.found.Found.{Found}
 use Rattle.uz_search.specs.declared.program.Program.{Program}
@@ -49,7 +53,7 @@ use Rattle.uz_search.specs.Searching.{IsEnded, Treated}
 use Rattle.uz_search.proofs.FramePlaces.{Reaches, at, length_some, reach_after, reach_line, between_of}
 use Rattle.uz_search.proofs.Lists.{in_map, kind_cases, bool_cases}
 use Rattle.uz_search.proofs.Exits.{exit_clocks}
-use Rattle.uz_search.proofs.OneResult.{exits_at}
+use Rattle.uz_search.proofs.OneResult.{exits_at, left_is_result}
 use Rattle.uz_search.proofs.VisitingLemmas.{some_is}
 use Rattle.uz_search.specs.Complete.{EndedPassesLocal, HasSuccessors}
 use Rattle.uz_search.specs.Made.{IsMadeOf}
@@ -113,39 +117,55 @@ record HasStep (program : Program) (x : Instance) (next : Next) (result : Result
   is : result ≡ Ok step
   emit : next.emit ≡ timed step.emit (first_exit step.exits.items).clocks
   back : next.back ≡ step.back
-  out : next.out.items ≡ map (successor (order_of_program program) x step) step.exits.items
+  out : next.out.items ≡ results_of (order_of_program program) x step step.exits.items
+  -- outside main nothing is narrowed
+  plain : is_main x.kind ≡ false → next.out.items ≡ map (successor (order_of_program program) x step) step.exits.items
 
 has_step : (program : Program) (x : Instance) (next : Next) (result : Result Step Fail)
+    → ((step : Step) → result ≡ Ok step → is_main x.kind ≡ false → step.test ≡ asks.Nothing)
     → Ok next ≡ next_of (order_of_program program) x result
     → HasStep program x next result
-has_step program x next (Err why) h = cc
-has_step program x next (Ok step) h = let same = ok_is next _ h in record {
+has_step program x next (Err why) none h = cc
+has_step program x next (Ok step) none h = let same = ok_is next _ h in record {
   step = step;
   is = refl;
   emit = ap (λ (n : Next). n.emit) same;
   back = ap (λ (n : Next). n.back) same;
   out = ap (λ (n : Next). n.out.items) same;
+  plain = λ apart. ap (λ (n : Next). n.out.items) same ∙ results_plain (order_of_program program) x step (none step refl apart)
+      step.exits.items;
 }
 
 -- the exits of a step are its row's
-record Parts (why : Option Fail) (exits : List Exit) (step : Step) : Type 0 where
+record Parts (why : Option Fail) (exits : List Exit) (asked : Test) (step : Step) : Type 0 where
   fine : why ≡ None
   same : step.exits.items ≡ exits
+  test : step.test ≡ asked
 
 parts : (why : Option Fail) (emitted : Option (Option EventKind)) (in_time : Bool) (draft step : Step)
-    → step_unless why emitted in_time draft ≡ Ok step → Parts why draft.exits.items step
+    → step_unless why emitted in_time draft ≡ Ok step → Parts why draft.exits.items draft.test step
 parts (Some why) emitted in_time draft step h = cc
 parts None None in_time draft step h = cc
 parts None (Some e) false draft step h = cc
-parts None (Some e) true draft step h = record { fine = refl; same = ap (λ (z : Step). z.exits.items) (sym (step_is _ step h)) }
+parts None (Some e) true draft step h = record {
+  fine = refl;
+  same = ap (λ (z : Step). z.exits.items) (sym (step_is _ step h));
+  test = ap (λ (z : Step). z.test) (sym (step_is _ step h));
+}
   where
     step_is : (a b : Step) → ◌≡◌ {A = Result Step Fail} (Ok a) (Ok b) → a ≡ b
     step_is a b e = cc
 
 row_parts : (head : Head) (lines : Lines) (image : Flash) (x : Instance) (i : Instr) (step : Step)
-    → step_of_row head lines image (Some i) x ≡ Ok step → Parts (fail_of head (effect_of i) x) (exits_at image x i) step
+    → step_of_row head lines image (Some i) x ≡ Ok step → Parts (fail_of head (effect_of i) x) (exits_at image x i) (test_of head (effect_of i) x) step
 row_parts head lines image x i step h =
     parts (fail_of head (effect_of i) x) (emission (effect_of i) x) (clock_holds lines (effect_of i) x (exits_at image x i)) _ step h
+
+row_unasked : (head : Head) (lines : Lines) (image : Flash) (x : Instance) (row : Option Instr) (step : Step)
+    → step_of_row head lines image row x ≡ Ok step → is_main x.kind ≡ false → step.test ≡ asks.Nothing
+row_unasked head lines image x None step h apart = cc
+row_unasked head lines image x (Some i) step h apart =
+    (row_parts head lines image x i step h).test ∙ asks_none head (effect_of i) x apart
 
 exit_bounds : (head : Head) (lines : Lines) (image : Flash) (x : Instance) (row : Option Instr) (step : Step)
     → step_of_row head lines image row x ≡ Ok step → (exit : Exit) → Among step.exits.items exit → (1 ≤ exit.clocks) × (exit.clocks ≤ 4)
@@ -189,8 +209,8 @@ shown_end None c = refl
 shown_end (Some e) c = ap (λ b. if b then Some e else None) (eq-eqb c c refl)
 
 module _ (image : Flash) (program : Program) (fits : ProgramFits program) (found : Found) (ended : IsEnded image program found)
-    (cert : Cert) (made : IsMadeOf program found cert) (ids : List ℕ)
-    (x : Instance) (node : Among found.nodes.keys x) (lies : HasSuccessors image program cert ids x) where
+    (cert : Cert) (made : IsMadeOf program found cert) (ids : List ℕ) (split : Option ℕ)
+    (x : Instance) (node : Among found.nodes.keys x) (lies : HasSuccessors image program cert ids split x) where
   abbrev t : Treated image program found.nodes.keys found.marks.items found.returns.items x
   t = cover.treated image program fits found.nodes.keys found.parents.items found.marks.items found.returns.items ended x node
 
@@ -223,7 +243,7 @@ module _ (image : Flash) (program : Program) (fits : ProgramFits program) (found
         o = cover.owed image program fits found.nodes.keys found.parents.items found.marks.items found.returns.items ended x node apart
 
         y_there : slice_get t.next.out.items there.0 ≡ Some y
-        y_there = ap (λ l. slice_get l there.0) s.out ∙ in_map (successor
+        y_there = ap (λ l. slice_get l there.0) (s.plain (apart_main x.kind apart)) ∙ in_map (successor
             (order_of_program program) x s.step) s.step.exits.items there.0 exit
             there.1
 
@@ -294,23 +314,32 @@ module _ (image : Flash) (program : Program) (fits : ProgramFits program) (found
 
     -- Successor
 
-    goes_on : t.next.back ≡ false → has_successors cert ids x s.step ≡ true
-    goes_on back = each_all (λ exit. lies_in_any cert ids (successor (lines_of_schedule cert.schedule) x s.step exit)) s.step.exits.items
-        (λ exit there.
-        subst (λ (l : Lines). lies_in_any cert ids (successor l x s.step exit) ≡ true) (sym lines_same)
-        (lies t.next (successor (order_of_program program) x s.step exit) t.after back (
-          there.0,
-          ap (λ l. slice_get l there.0) s.out ∙ in_map (successor (order_of_program program) x s.step) s.step.exits.items there.0 exit
-              there.1,
-        )))
+    goes_on : t.next.back ≡ false → has_successors cert ids split x s.step ≡ true
+    goes_on back = each_all (λ exit. passes cert ids split (narrowed s.step.test exit (successor (lines_of_schedule cert.schedule) x s.step exit)))
+        s.step.exits.items
+        (λ exit there. subst (λ (l : Lines). passes cert ids split (narrowed s.step.test exit (successor l x s.step exit)) ≡ true)
+        (sym lines_same) (by exit there (narrowed s.step.test exit (successor (order_of_program program) x s.step exit)) refl))
+      where
+        by : (exit : Exit) → Among s.step.exits.items exit → (o : Option Instance)
+            → narrowed s.step.test exit (successor (order_of_program program) x s.step exit) ≡ o → passes cert ids split o ≡ true
+        by exit there None is = refl
+        by exit there (Some y) is = lies t.next y t.after back (subst (λ l. Among l y) (sym s.out)
+            (left_is_result (order_of_program program) x s.step s.step.exits.items exit y there is))
 
     -- Clock and Restore
 
     returns : t.next.back ≡ true → return_fail (rest_in cert.rests (end_of cert x s.step).line) (end_of cert x s.step) ≡ None
     returns back = subst (λ (z : Instance). return_fail (rest_in cert.rests z.line) z ≡ None) (sym end_is) here
       where
+        apart : x.kind ≢ Main
+        apart = cover.back_apart image program fits found.nodes.keys found.parents.items found.marks.items found.returns.items ended x node
+            back
+
+        some : (y : Instance) × (slice_get t.next.out.items 0 ≡ Some y)
+        some = t.some apart
+
         end : Instance
-        end = t.some.0
+        end = some.0
 
         first : (exits : List Exit) (f : Exit → Instance) → slice_get (map f exits) 0 ≡ Some end → f (first_exit exits) ≡ end
         first [] f h = cc
@@ -318,16 +347,17 @@ module _ (image : Flash) (program : Program) (fits : ProgramFits program) (found
 
         end_is : end_of cert x s.step ≡ end
         end_is = ap (λ (l : Lines). successor l x s.step (first_exit s.step.exits.items)) lines_same
-            ∙ first s.step.exits.items (successor (order_of_program program) x s.step) (ap (λ l. slice_get l 0) (sym s.out) ∙ t.some.1)
+            ∙ first s.step.exits.items (successor (order_of_program program) x s.step) (ap (λ l. slice_get l 0)
+            (sym (s.plain (apart_main x.kind apart))) ∙ some.1)
 
         here : return_fail (rest_in cert.rests end.line) end ≡ None
         here =
-            let noted = t.noted back end t.some.1 in
+            let noted = t.noted back end some.1 in
             let rest = made.rests end.line noted.0 noted.1 in
             let clock : end.clock ≡ rest.0.clock = sym noted.2.0 ∙ sym rest.2 in
             let cells : end.cells.items ≡ rest.0.cells.items = ap (λ v. v.items) (sym noted.2.1) ∙ sym rest.3 in
             let kept : restored end ≡ true = ⊎_elim (λ yes. yes)
-            (λ no. absurd (t.clear Restore (inr (refl, record { back = back; end = end; ends = (0, t.some.1); kept = no }))))
+            (λ no. absurd (t.clear Restore (inr (refl, record { back = back; end = end; ends = (0, some.1); kept = no }))))
             (bool_cases (restored end)) in
             let inside : cells_inside end.cells.items rest.0.cells.items ≡ true = subst (λ l. cells_inside end.cells.items l ≡ true) cells
             (cells_same end.cells.items) in
@@ -337,20 +367,20 @@ module _ (image : Flash) (program : Program) (fits : ProgramFits program) (found
             ∙ ap (λ b. refuse_if (not (b && cells_inside end.cells.items rest.0.cells.items)) Restore None) kept
             ∙ ap (λ b. refuse_if (not b) Restore None) inside
 
-    result_ok : result_fail cert ids x s.step ≡ None
+    result_ok : result_fail cert ids split x s.step ≡ None
     result_ok = ⊎_elim
         (λ back. ap (λ b. if b then return_fail (rest_in cert.rests (end_of cert x s.step).line) (end_of cert x s.step) else refuse_if
-        (not (has_successors cert ids x s.step)) Successor None) (sym s.back ∙ back) ∙ returns back)
+        (not (has_successors cert ids split x s.step)) Successor None) (sym s.back ∙ back) ∙ returns back)
         (λ back. ap (λ b. if b then return_fail (rest_in cert.rests (end_of cert x s.step).line) (end_of cert x s.step) else refuse_if
-        (not (has_successors cert ids x s.step)) Successor None) (sym s.back ∙ back)
+        (not (has_successors cert ids split x s.step)) Successor None) (sym s.back ∙ back)
         ∙ ap (λ b. refuse_if (not b) Successor None) (goes_on back))
         (bool_cases t.next.back)
 
-    step_ok : step_fail cert ids x (row_emits_in_main row x) (step_of_row cert.head (lines_of_schedule cert.schedule) image row x) ≡ None
+    step_ok : step_fail cert ids split x (row_emits_in_main row x) (step_of_row cert.head (lines_of_schedule cert.schedule) image row x) ≡ None
     step_ok =
-        ap (step_fail cert ids x (row_emits_in_main row x)) s.is
-        ∙ ap (λ b. refuse_if b Edge (refuse_if (not (compares_edges cert x s.step)) Edge (result_fail cert ids x s.step))) no_emission
-        ∙ ap (λ b. refuse_if (not b) Edge (result_fail cert ids x s.step)) compares ∙ result_ok
+        ap (step_fail cert ids split x (row_emits_in_main row x)) s.is
+        ∙ ap (λ b. refuse_if b Edge (refuse_if (not (compares_edges cert x s.step)) Edge (result_fail cert ids split x s.step))) no_emission
+        ∙ ap (λ b. refuse_if (not b) Edge (result_fail cert ids split x s.step)) compares ∙ result_ok
 
 fails_stop : (head : Head) (e : Effect) (x : Instance) → fail_of head e x ≡ None → is_stop e ≡ false
 fails_stop head Stop x h = cc
@@ -363,9 +393,9 @@ stops_none head lines image x None step h = cc
 stops_none head lines image x (Some i) step h = fails_stop head (effect_of i) x (row_parts head lines image x i step h).fine
 
 pub passes_local : EndedPassesLocal
-passes_local image p found cert ids row x fits ended made node lies reads =
-    ap (λ b. refuse_if b Opcode (instance_fail image cert ids row (Some x)))
-    (stops_none cert.head (lines_of_schedule cert.schedule) image x row s.step s.is) ∙ step_ok image p fits found ended cert made ids x node lies row reads s
+passes_local image p found cert ids split row x fits ended made node lies reads =
+    ap (λ b. refuse_if b Opcode (instance_fail image cert ids split row (Some x)))
+    (stops_none cert.head (lines_of_schedule cert.schedule) image x row s.step s.is) ∙ step_ok image p fits found ended cert made ids split x node lies row reads s
   where
     s : HasStep p x (cover.treated image p fits found.nodes.keys found.parents.items found.marks.items found.returns.items ended x
         node).next (step_of_row cert.head (lines_of_schedule cert.schedule) image row x)
@@ -374,6 +404,7 @@ passes_local image p found cert ids row x fits ended made node lies reads =
         node).after in
         let same = order_same p found.marks.items cert.schedule made.schedule in
         has_step p x _ (step_of_row cert.head (lines_of_schedule cert.schedule) image row x)
+        (λ step e apart. row_unasked cert.head (lines_of_schedule cert.schedule) image x row step e apart)
         (a.is ∙ ap (λ (r : Option Instr). next_of (order_of_program p) x (step_of_row p.head (order_of_program p) image r x))
         (decoded_same _ _ a.row row a.reads reads)
         ∙ ap (λ (h : Head). next_of (order_of_program p) x (step_of_row h (order_of_program p) image row x)) (sym made.head)

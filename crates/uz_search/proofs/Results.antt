@@ -16,9 +16,11 @@ use Rattle.uz_schedule.specs.declared.lines.EventKind.{EventKind}
 use Rattle.uz_schedule.specs.declared.lines.EventKind.TheVariants.{Sync, Pixel, Sound, Leave}
 use Rattle.uz_schedule.specs.declared.states.Instance.{Instance}
 use Rattle.uz_transfer.specs.declared.step.Exit.{Exit}
+use Rattle.uz_transfer.specs.Compared.{with_compared}
 use Rattle.uz_transfer.specs.Emission.{emission, emission_at, level_after}
 use Rattle.uz_transfer.specs.Exits.{outcomes}
 use Rattle.uz_transfer.specs.Kinds.{is_main}
+use Rattle.uz_transfer.specs.Narrowed.{narrowed, test_of}
 use Rattle.uz_transfer.specs.Step.{clears_flag, ends_line, following_of, at_exit, sampled_of}
 use Rattle.uz_transfer.specs.Timer.{with_timer}
 use Rattle.uz_transfer.specs.Values.{pair_range}
@@ -29,8 +31,8 @@ use Rattle.uz_search.specs.declared.program.Program.{Program}
 use Rattle.uz_search.specs.Fitting.{ProgramFits, Stands}
 use Rattle.uz_search.specs.Following.{Among, Flash, order_of_program, lines_of, frame_of, line_on, clock_on, place_on}
 use Rattle.uz_search.specs.Following.{clocks_between, most_clocks}
-use Rattle.uz_search.proofs.OneResult.{Steps, exits_at, draft_at}
-use Rattle.uz_search.proofs.Lists.{in_map, of_map, kind_cases, bool_cases}
+use Rattle.uz_search.proofs.OneResult.{Steps, exits_at, draft_at, left_at_exit, left_only, step_at}
+use Rattle.uz_search.proofs.Lists.{in_map, kind_cases, bool_cases}
 use Rattle.uz_search.proofs.Exits.{exit_clocks, first_exit_of, emits_one, returns_one, OneExit}
 use Rattle.uz_search.proofs.Events.{Turns, Emits, emits, back_handler, level_turned}
 use Rattle.uz_search.proofs.FramePlaces.{Reaches, length_few, length_some, line_below, reach_after, reach_line, between_of}
@@ -38,7 +40,7 @@ use Rattle.uz_search.proofs.TimerLaws.{handler_not, temp_kept, top_kept, top_sta
 use Rattle.uz_search.proofs.ToldLaws.{told_so, transfer_leaves}
 use Rattle.uz_search.proofs.VisitingLemmas.{some_is}
 
-apart_main : (k : Kind) → k ≢ Main → is_main k ≡ false
+pub apart_main : (k : Kind) → k ≢ Main → is_main k ≡ false
 apart_main Main h = absurd (h refl)
 apart_main Handler h = refl
 apart_main Alone h = refl
@@ -48,26 +50,41 @@ pub record AtExit (image : Flash) (program : Program) (x : Instance) (next : Nex
     0 where
   pub exit : Exit
   pub there : Among (exits_at image x s.row) exit
-  pub is : at_exit (order_of_program program) x (draft_at image program x s.row) s.emitted (clears_flag (effect_of s.row) x) exit ≡ y
+  -- what is left there, and where registers and pairs are as they are left, all that is known there
+  pub left : narrowed (test_of program.head (effect_of s.row) x) exit (at_exit (order_of_program program) x (draft_at image program x s.row)
+      s.emitted (clears_flag (effect_of s.row) x) exit) ≡ Some y
+  pub is : record (at_exit (order_of_program program) x (draft_at image program x s.row) s.emitted (clears_flag (effect_of s.row) x) exit) {
+    regs = y.regs;
+    pairs = y.pairs;
+  } ≡ y
   pub some : 1 ≤ exit.clocks
   pub few : exit.clocks ≤ 4
 
 module _ (image : Flash) (program : Program) (x : Instance) (next : Next) (s : Steps image program x next) where
   pub result : (y : Instance) → Among next.out.items y → AtExit image program x next s y
   result y h =
-      let at = of_map (at_exit (order_of_program program) x (draft_at image program x s.row) s.emitted (clears_flag (effect_of s.row) x))
-      (exits_at image x s.row) h.0 y
-      (ap (λ l. slice_get l h.0) (sym s.out) ∙ h.1) in
+      let at = left_at_exit (order_of_program program) x (step_at image program x s.row s.emitted) (exits_at image x s.row) y
+      (subst (λ l. Among l y) s.out h) in
       let clocks = exit_clocks image program.head s.row x (following_of (words_of s.row) x)
-      (outcomes image (following_of (words_of s.row) x) (effect_of s.row) x) at.0 s.fails (h.0, at.1) in
-      record { exit = at.0; there = (h.0, at.1); is = at.2; some = clocks.0; few = clocks.1 }
+      (outcomes image (following_of (words_of s.row) x) (effect_of s.row) x) at.exit s.fails at.there in
+      record {
+        exit = at.exit;
+        there = at.there;
+        left = at.left;
+        is = left_only (test_of program.head (effect_of s.row) x) at.exit
+            (at_exit (order_of_program program) x (draft_at image program x s.row) s.emitted (clears_flag (effect_of s.row) x) at.exit) y
+            at.left;
+        some = clocks.0;
+        few = clocks.1;
+      }
 
-  -- there is one, where Z's ends are in order
-  pub some_result : (pair_range x 30).lo ≤ (pair_range x 30).hi → (y : Instance) × (slice_get next.out.items 0 ≡ Some y)
-  some_result order =
+  -- outside main there is one, where Z's ends are in order
+  pub some_result : is_main x.kind ≡ false → (pair_range x 30).lo ≤ (pair_range x 30).hi
+      → (y : Instance) × (slice_get next.out.items 0 ≡ Some y)
+  some_result apart order =
       let exit = first_exit_of image (effect_of s.row) (clocks_of s.row) (following_of (words_of s.row) x) x order in (
         at_exit (order_of_program program) x (draft_at image program x s.row) s.emitted (clears_flag (effect_of s.row) x) exit.0,
-        ap (λ l. slice_get l 0) s.out ∙ in_map (at_exit (order_of_program program) x (draft_at image program x s.row) s.emitted
+        ap (λ l. slice_get l 0) (s.plain apart) ∙ in_map (at_exit (order_of_program program) x (draft_at image program x s.row) s.emitted
             (clears_flag (effect_of s.row) x)) (exits_at image x s.row) 0 exit.0 exit.1,
       )
 
@@ -79,10 +96,10 @@ module _ (image : Flash) (program : Program) (x : Instance) (next : Next) (s : S
   back_is_handler back = back_handler program.head (effect_of s.row) x s.fails (sym s.back ∙ back)
 
   -- where one exit is there, one result is
-  only_one : OneExit image (effect_of s.row) (clocks_of s.row) (following_of (words_of s.row) x) x → (y : Instance) → Among next.out.items y
-      → slice_get next.out.items 0 ≡ Some y
-  only_one one y (i, h) =
-      let out : next.out.items ≡ f one.exit ∷ [] = s.out ∙ ap (map f) one.is in
+  only_one : is_main x.kind ≡ false → OneExit image (effect_of s.row) (clocks_of s.row) (following_of (words_of s.row) x) x
+      → (y : Instance) → Among next.out.items y → slice_get next.out.items 0 ≡ Some y
+  only_one apart one y (i, h) =
+      let out : next.out.items ≡ f one.exit ∷ [] = s.plain apart ∙ ap (map f) one.is in
       let here : slice_get (f one.exit ∷ []) i ≡ Some y = ap (λ l. slice_get l i) (sym out) ∙ h in
       ap (λ l. slice_get l 0) out ∙ at_zero (f one.exit) i here
     where
@@ -95,7 +112,8 @@ module _ (image : Flash) (program : Program) (x : Instance) (next : Next) (s : S
 
   -- a return has one result
   pub one_return : next.back ≡ true → (y : Instance) → Among next.out.items y → slice_get next.out.items 0 ≡ Some y
-  one_return back = only_one (returns_one image (effect_of s.row) (clocks_of s.row) (following_of (words_of s.row) x) x (sym s.back ∙ back))
+  one_return back = only_one (ap is_main (back_is_handler back)) (returns_one image (effect_of s.row) (clocks_of s.row)
+      (following_of (words_of s.row) x) x (sym s.back ∙ back))
 
   -- what is emitted is a return's leave, or turns the level
   emits_so : Stands program x → Emits x.level next.back (Some s.emitted)
@@ -329,10 +347,13 @@ module _ (image : Flash) (program : Program) (fits : ProgramFits program) (x : I
           )
 
       told : IsInstanceTold y
-      told = subst IsInstanceTold r.is (told_so x
-          (at_exit (order_of_program program) x (draft_at image program x s.row) s.emitted (clears_flag (effect_of s.row) x) r.exit)
-          (ap (λ (z : Instance). at_exit (order_of_program program) x (with_timer (draft_at image program x s.row).top
-          (draft_at image program x s.row).temp z) s.emitted (clears_flag (effect_of s.row) x) r.exit)
+      told = subst IsInstanceTold r.is (told_so x _
+          (ap (λ (z : Instance). record (at_exit (order_of_program program) x (with_compared (draft_at image program x s.row).compared
+          (with_timer (draft_at image program x s.row).top (draft_at image program x s.row).temp z)) s.emitted (clears_flag (effect_of s.row)
+          x) r.exit) {
+            regs = y.regs;
+            pairs = y.pairs;
+          })
           (transfer_leaves program.head image (following_of (words_of s.row) x)
           (sampled_of ((order_of_program program).length x.line) (effect_of s.row) (clocks_of s.row) x) (effect_of s.row) x))
           stands.told)

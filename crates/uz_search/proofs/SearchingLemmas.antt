@@ -36,7 +36,7 @@ way_from_all p x next old (Some noted) new apart all = (
 
 pub treats_from : (image : Flash) (program : Program) (x : Instance) (by : ℕ) (marks marks' : List Mark)
     (returns returns' : List (Option Return)) (next : Next)
-    → After image program x (Ok next) → ((y : Instance) × (slice_get next.out.items 0 ≡ Some y))
+    → After image program x (Ok next) → (x.kind ≢ Main → (y : Instance) × (slice_get next.out.items 0 ≡ Some y))
     → ((why : Fail) → StuckWith image program x next why → ⊥)
     → MarksWay program x next marks None marks' → NotesEnd next by returns None returns' → Treats image program x by marks marks' returns
     returns' next

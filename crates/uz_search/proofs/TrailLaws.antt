@@ -5,7 +5,7 @@ use Rattle.std.specs.List.{IsDistinct, AllByRecursion}
 use Rattle.std.proofs.lemmas.List.{length-take-le}
 use Rattle.uz_schedule.specs.declared.states.Instance.{Instance}
 use Rattle.std.proofs.lemmas.Option.{slice_get_within}
-use Rattle.uz_schedule.specs.declared.kinds.Kind.TheVariants.{Main}
+use Rattle.uz_schedule.specs.declared.kinds.Kind.TheVariants.{Main, Handler}
 use Rattle.uz_search.specs.declared.program.Program.{Program}
 use Rattle.uz_search.specs.declared.marks.Mark.{Mark}
 use Rattle.uz_search.specs.declared.returns.Return.{Return}
@@ -15,7 +15,8 @@ use Rattle.uz_search.specs.Visiting.{IsTree}
 use Rattle.uz_search.specs.Returning.{ReturnAt}
 use Rattle.uz_search.specs.Searching.{IsSearch, Treated}
 use Rattle.uz_search.specs.Refusing.{AreDistinct, AreOnTrails, ClosedWithoutReturn}
-use Rattle.uz_search.proofs.OneResult.{one_next}
+use Rattle.uz_search.proofs.OneResult.{one_next, steps}
+use Rattle.uz_search.proofs.Results.{back_is_handler}
 use Rattle.uz_search.proofs.VisitingLemmas.{get_front, some_is}
 use Rattle.uz_search.proofs.SearchingLemmas.{tree_all}
 
@@ -109,10 +110,14 @@ closed_without image program nodes parents marks returns s one main nothing = re
     treated : (x : Instance) → Among nodes x → Treated image program nodes marks returns x
     treated x h = s.treated h.0 x (slice_get_within nodes h.0 x h.1) h.1
 
+    apart : Main ≡ Handler → ⊥
+    apart h = cc
+
     without : (x : Instance) → Among nodes x → (t : Treated image program nodes marks returns x) → (b : Bool) → t.next.back ≡ b
         → t.next.back ≡ false
     without x h t false e = e
     without x h t true e =
-        let end = t.some in
+        let handler = back_is_handler image program x t.next (steps image program x t.next t.after) e in
+        let end = t.some (λ main. apart (sym main ∙ handler)) in
         let noted = t.noted e end.0 end.1 in
         absurd (nothing end.0.line noted.0 noted.1)

@@ -5,6 +5,7 @@ use Rattle.uz_search.specs.declared.program.Program.{Program}
 use Rattle.uz_search.specs.declared.widening.Widening.{Widening}
 use Rattle.uz_search.specs.declared.widening.Widening.TheVariants.{Register, Pair}
 use Rattle.uz_search.specs.Widenings.{widened_all, widened_by}
+use Rattle.uz_search.specs.Loosened.{loosened}
 use Rattle.uz_search.specs.Widened.{facts_at, widened}
 
 -- two instances that differ in registers and pairs alone
@@ -18,6 +19,7 @@ pub record SamePlace (a b : Instance) : Type 0 where
   pub top : a.top ≡ b.top
   pub temp : a.temp ≡ b.temp
   pub flags : a.flags ≡ b.flags
+  pub compared : a.compared ≡ b.compared
   pub stack : a.stack ≡ b.stack
   pub cells : a.cells ≡ b.cells
 
@@ -42,7 +44,14 @@ by_all (fact ∷ facts) x = by_all facts (widened_by fact x)
 
 pub widened_rest : (program : Program) (x : Instance) → LeavesRest (widened program x) x
 unfolding widened
-widened_rest program x = by_all (facts_at program x.pc) x
+widened_rest program x = by_all (facts_at program x.pc) (loosened x)
+    ∙ ap (λ (z : Instance). record z { regs = y.regs; pairs = y.pairs }) loose
+  where
+    y : Instance
+    y = widened_all (facts_at program x.pc) (loosened x)
+
+    loose : LeavesRest (loosened x) x
+    loose = refl
 
 pub widened_place : (program : Program) (x : Instance) → SamePlace (widened program x) x
 widened_place program x = let is = widened_rest program x in record {
@@ -55,6 +64,7 @@ widened_place program x = let is = widened_rest program x in record {
   top = ap (λ (z : Instance). z.top) is;
   temp = ap (λ (z : Instance). z.temp) is;
   flags = ap (λ (z : Instance). z.flags) is;
+  compared = ap (λ (z : Instance). z.compared) is;
   stack = ap (λ (z : Instance). z.stack) is;
   cells = ap (λ (z : Instance). z.cells) is;
 }

@@ -33,7 +33,8 @@ use Rattle.uz_transfer.specs.declared.fail.Fail.TheVariants as why
 use Rattle.uz_transfer.specs.declared.step.Exit.{Exit}
 use Rattle.uz_transfer.specs.Exits.{outcomes, targets, jump_pcs, numbers_from}
 use Rattle.uz_transfer.specs.Refusals.{fail_of, refuse_if, target_fails}
-use Rattle.uz_transfer.specs.Step.{exits_of, following_of, sampled_of}
+use Rattle.uz_transfer.specs.Narrowed.{test_of}
+use Rattle.uz_transfer.specs.Step.{at_exit, clears_flag, exits_of, following_of, sampled_of}
 use Rattle.uz_transfer.specs.Values.{byte_hull, pair_range, span_of, value_at}
 use Rattle.uz_rules.specs.declared.next.Next.{Next}
 use Rattle.uz_search.specs.declared.program.Program.{Program}
@@ -43,13 +44,16 @@ use Rattle.uz_search.specs.Following.{Among, Flash, Follows, entries, order_of_p
 use Rattle.uz_search.specs.Widenings.{is_whole, widened_all, widened_by, widened_pair, widened_value}
 use Rattle.uz_search.specs.Widened.{facts_at, widened}
 use Rattle.uz_search.proofs.Lists.{append_cases, bool_cases, choose, of_flat, of_map}
-use Rattle.uz_search.proofs.OneResult.{Steps, steps}
+use Rattle.uz_search.proofs.OneResult.{Steps, draft_at, steps}
 use Rattle.uz_search.proofs.Results.{result, same_kind, back_is_handler}
 use Rattle.uz_search.proofs.SearchingLemmas.{tree_all}
 use Rattle.uz_search.proofs.Standing.{entry_of}
 use Rattle.uz_search.proofs.VisitingLemmas.{some_is}
 use Rattle.uz_search.proofs.WidenedLaws.{widened_place}
-use Rattle.uz_search.specs.Limits.{Each, IsOpen, OldFits, IsWithinLimits, EndedWithinLimits}
+use Rattle.uz_search.specs.Limits.{ComparedKnown, Each, IsOpen, OldFits, IsWithinLimits, EndedWithinLimits}
+use Rattle.uz_search.specs.Loosened.{loosened}
+use Rattle.uz_search.proofs.ComparedLimits.{compared_known, nothing_known}
+use Rattle.uz_search.proofs.Loosening.{NearlyKnown, loosened_known, narrowed_nearly}
 use Rattle.uz_search.proofs.Known.{Known, each_set, get_index, get_set_same, get_set_other, index_each, index_set_other}
 use Rattle.uz_search.proofs.Known.{index_set_same, length_set}
 use Rattle.uz_search.proofs.KnownStep.{transfer_known}
@@ -148,8 +152,9 @@ known_of p x h = record {
   cells = h.cells;
 }
 
-pub within_of : (p : Program) (x : Instance) → x.pc < 32768 → Known p.head x.kind x → IsWithinLimits p x
-within_of p x pc h = record {
+pub within_of : (p : Program) (x : Instance) → x.pc < 32768 → ComparedKnown p.head.version x.kind x.compared → Known p.head x.kind x
+    → IsWithinLimits p x
+within_of p x pc compared h = record {
   pc = pc;
   register_count = h.register_count;
   registers = h.registers;
@@ -157,10 +162,17 @@ within_of p x pc h = record {
   hulls = λ k few at. subst IsOpen (same_hull x.regs (26 + 2 * k)) (h.hulls k few at);
   flag_count = h.flag_count;
   flags = h.flags;
+  compared = compared;
   slots = h.slots;
   stack = h.stack;
   cells = h.cells;
 }
+
+-- a result, before it is loosened
+record NearlyWithin (p : Program) (x : Instance) : Type 0 where
+  pc : x.pc < 32768
+  compared : ComparedKnown p.head.version x.kind x.compared
+  known : NearlyKnown p.head x.kind x
 
 -- Widening
 
@@ -275,9 +287,9 @@ module _ (head : Head) (kind : Kind) where
   facts_known [] x h = h
   facts_known (fact ∷ facts) x h = facts_known facts (widened_by fact x) (fact_known fact x h)
 
-  pub widened_known : (p : Program) (x : Instance) → Known head kind x → Known head kind (widened p x)
+  pub widened_known : (p : Program) (x : Instance) → NearlyKnown head kind x → Known head kind (widened p x)
   unfolding widened
-  widened_known p x h = facts_known (facts_at p x.pc) x h
+  widened_known p x h = facts_known (facts_at p x.pc) (loosened x) (loosened_known head kind x h)
 
 -- The handler's entry
 
@@ -286,7 +298,7 @@ old_each k zero le i v h = cc
 old_each k (suc n) le zero v h = subst (OldFits Handler) (some_is (Old k) v h) (refl, omega (arith, le))
 old_each k (suc n) le (suc i) v h = old_each (suc k) n (omega (arith, le)) i v h
 
-entry_known : (p : Program) (end e : Instance) → IsWithinLimits p end → end.kind ≡ Handler → Among (entries p end) e → IsWithinLimits p e
+entry_known : (p : Program) (end e : Instance) → NearlyWithin p end → end.kind ≡ Handler → Among (entries p end) e → IsWithinLimits p e
 entry_known p end e h handler there =
     let it = entry_of p end e there in
     subst (IsWithinLimits p) it.is (record {
@@ -297,9 +309,10 @@ entry_known p end e h handler there =
       hulls = open_all;
       flag_count = refl;
       flags = old_flags;
+      compared = nothing_known p.head.version Handler;
       slots = omega arith;
       stack = λ i v at. cc;
-      cells = subst (λ k. spans_fit (tracked p.head k) end.cells.items ≡ true) handler h.cells;
+      cells = subst (λ k. spans_fit (tracked p.head k) end.cells.items ≡ true) handler h.known.cells;
     })
   where
     open_all : (k : ℕ) → k < 3 → slice_get (whole_pair ∷ whole_pair ∷ whole_pair ∷ []) k ≡ Some whole_pair
@@ -322,28 +335,34 @@ entry_known p end e h handler there =
 -- Results
 
 within_next : (image : Flash) (p : Program) (x : Instance) (next : Next) → HeadFits p.head → IsWithinLimits p x → (s : Steps image p x next)
-    → (y : Instance) → Among next.out.items y → IsWithinLimits p y
+    → (y : Instance) → Among next.out.items y → NearlyWithin p y
 within_next image p x next fits h s y there =
     let r = result image p x next s y there in
     let e : Effect = effect_of s.row in
     let known = transfer_known p.head x (known_of p x h) image (following_of (words_of s.row) x)
     (sampled_of ((order_of_program p).length x.line) e (clocks_of s.row) x) e fits s.fails in
-    let placed_known : Known p.head x.kind y = subst (Known p.head x.kind) r.is (record {
+    let z : Instance = at_exit (order_of_program p) x (draft_at image p x s.row) s.emitted (clears_flag e x) r.exit in
+    let nearly : NearlyKnown p.head x.kind y = narrowed_nearly p.head x.kind (test_of p.head e x) r.exit z y (record {
       register_count = known.register_count;
       registers = known.registers;
       pair_count = known.pair_count;
-      hulls = known.hulls;
       flag_count = known.flag_count;
       flags = known.flags;
       slots = known.slots;
       stack = known.stack;
       cells = known.cells;
-    }) in
+    }) r.left in
     let low : r.exit.pc < 32768 =
     exit_below p.head e (clocks_of s.row) (following_of (words_of s.row) x) x (outcomes image (following_of (words_of s.row) x) e x) r.exit
     (effect_fits s.row) s.fails (mod-lt (x.pc + words_of s.row) (omega arith)) r.there in
-    within_of p y (subst (λ (z : Instance). z.pc < 32768) r.is low)
-    (subst (λ k. Known p.head k y) (sym (same_kind image p x next s y there)) placed_known)
+    let kind = sym (same_kind image p x next s y there) in
+    record {
+      pc = subst (λ (v : Instance). v.pc < 32768) r.is low;
+      compared = subst (λ k. ComparedKnown p.head.version k y.compared) kind
+          (subst (λ (v : Instance). ComparedKnown p.head.version x.kind v.compared) r.is
+          (compared_known p.head e x (effect_fits s.row) h.compared));
+      known = subst (λ k. NearlyKnown p.head k y) kind nearly;
+    }
 
 within_more : (image : Flash) (p : Program) (x y : Instance) → HeadFits p.head → IsWithinLimits p x → Follows image p x y → IsWithinLimits p
     y
@@ -362,7 +381,9 @@ within_more image p x y fits h follows = ⊎_elim
     let w = within_next image p x next fits h s z (mapped.0, from.1) in
     let place = widened_place p z in
     subst (IsWithinLimits p) from.2 (within_of p (widened p z) (subst (λ n. n < 32768) (sym place.pc) w.pc)
-    (subst (λ k. Known p.head k (widened p z)) (sym place.kind) (widened_known p.head z.kind p z (known_of p z w)))))
+    (subst (λ c. ComparedKnown p.head.version (widened p z).kind c) (sym place.compared)
+    (subst (λ k. ComparedKnown p.head.version k z.compared) (sym place.kind) w.compared))
+    (subst (λ k. Known p.head k (widened p z)) (sym place.kind) (widened_known p.head z.kind p z w.known))))
     (bool_cases next.back)
   where
     next : Next

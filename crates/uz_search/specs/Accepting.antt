@@ -20,13 +20,13 @@ use Rattle.uz_search.specs.Complete.{HasSuccessors}
 use Rattle.uz_search.specs.Made.{IsMadeOf}
 
 -- at a line and a count of a point's box stands an instance of the search, at the point's program counter, and its results lie in the named
--- successors
+-- successors, or are covered by the values of the point's register
 pub record StandsFor (image : Flash) (p : Program) (found : Found) (cert : Cert) (id l c : ℕ) (point : Point) : Type 0 where
   pub x : Instance
   pub is : instance_at cert id l c ≡ Some x
   pub node : Among found.nodes.keys x
   pub pc : x.pc ≡ point.pc
-  pub named : HasSuccessors image p cert point.next.items x
+  pub named : HasSuccessors image p cert point.next.items point.split x
 
 -- a rest is a noted return, and the handler's first states lie in its vector's point where they are instances of the search
 pub record IsRestOf (found : Found) (cert : Cert) (rest : Rest) : Type 0 where

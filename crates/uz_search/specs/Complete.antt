@@ -13,8 +13,7 @@ use Rattle.uz_schedule.specs.declared.states.Rest.{Rest}
 use Rattle.uz_transfer.specs.Step.{IsReadAt}
 use Rattle.uz_rules.specs.declared.next.Next.{Next}
 use Rattle.uz_rules.specs.EdgeRule.{position_of}
-use Rattle.uz_rules.specs.Local.{local_fail}
-use Rattle.uz_rules.specs.Successors.{lies_in_any}
+use Rattle.uz_rules.specs.Local.{local_fail, passes}
 use Rattle.uz_search.specs.declared.found.Found.{Found}
 use Rattle.uz_search.specs.declared.program.Program.{Program}
 use Rattle.uz_search.specs.declared.returns.Return.{Return}
@@ -64,12 +63,14 @@ EndedRestsEnter = (image : Flash) (p : Program) (found : Found) (cert : Cert) (r
     → IsScheduleOf p found.marks.items cert.schedule → ReturnAt found.returns.items rest.line r → rest.cells.items ≡ r.cells.items → c ≤ 3
     → Among found.nodes.keys (rest_instance cert rest c)
 
--- each instance passes the local rule, with successors in which its results lie
-abbrev pub HasSuccessors : Flash → Program → Cert → List ℕ → Instance → Type 0
-HasSuccessors image p cert ids x = (next : Next) (y : Instance) → After image p x (Ok next) → next.back ≡ false → Among next.out.items y
-    → lies_in_any cert ids y ≡ true
+-- each instance passes the local rule, with successors in which its results lie, or are covered by the values of a register
+abbrev pub HasSuccessors : Flash → Program → Cert → List ℕ → Option ℕ → Instance → Type 0
+HasSuccessors image p cert ids split x = (next : Next) (y : Instance) → After image p x (Ok next) → next.back ≡ false
+    → Among next.out.items y → passes cert ids split (Some y) ≡ true
 
 abbrev pub EndedPassesLocal : Type 0
-EndedPassesLocal = (image : Flash) (p : Program) (found : Found) (cert : Cert) (ids : List ℕ) (row : Option Instr) (x : Instance)
+EndedPassesLocal = (image : Flash) (p : Program) (found : Found) (cert : Cert) (ids : List ℕ) (split : Option ℕ) (row : Option Instr)
+    (x : Instance)
     → ProgramFits p → IsEnded image p found → IsMadeOf p found cert
-    → Among found.nodes.keys x → HasSuccessors image p cert ids x → IsReadAt image x.pc row → local_fail image cert ids row (Some x) ≡ None
+    → Among found.nodes.keys x → HasSuccessors image p cert ids split x → IsReadAt image x.pc row
+    → local_fail image cert ids split row (Some x) ≡ None

@@ -15,4 +15,5 @@ pub mod Widenings
 pub mod Accepting
 pub mod Complete
 pub mod Limits
+pub mod Loosened
 pub mod Made

@@ -3,11 +3,15 @@ use Rattle.std.specs.Prelude.{◌≡◌, ℕ, ◌+◌, ◌*◌, ◌<◌, ◌≤�
 use Rattle.uz_schedule.specs.Ends.{Ends, whole_pair}
 use Rattle.uz_schedule.specs.Instances.{hull_at}
 use Rattle.uz_schedule.specs.Tracked.{tracked, depth_of}
-use Rattle.uz_schedule.specs.WellFormed.{BitFits, spans_fit}
+use Rattle.uz_schedule.specs.WellFormed.{AgainstFits, BitFits, spans_fit}
+use Rattle.uz_schedule.specs.declared.facts.Compared.{Compared}
+use Rattle.uz_schedule.specs.declared.facts.Compared.TheVariants.{Byte, Nothing, Pair, PairResult, Result, Value}
 use Rattle.uz_schedule.specs.declared.facts.Val.{Val}
 use Rattle.uz_schedule.specs.declared.facts.Val.TheVariants.{Range, Old, OldFlags}
 use Rattle.uz_schedule.specs.declared.kinds.Kind.{Kind}
-use Rattle.uz_schedule.specs.declared.kinds.Kind.TheVariants.{Handler}
+use Rattle.uz_schedule.specs.declared.kinds.Kind.TheVariants.{Main, Handler, Alone}
+use Rattle.uz_schedule.specs.declared.kinds.RuleVersion.{RuleVersion}
+use Rattle.uz_schedule.specs.declared.kinds.RuleVersion.TheVariants.{Two, Three}
 use Rattle.uz_schedule.specs.declared.states.Instance.{Instance}
 use Rattle.uz_search.specs.declared.found.Found.{Found}
 use Rattle.uz_search.specs.declared.program.Program.{Program}
@@ -31,6 +35,22 @@ OldFits kind OldFlags = kind ≡ Handler
 abbrev pub IsOpen : Ends → Type 0
 IsOpen e = (e.lo ≡ 0) × (65535 ≤ e.hi)
 
+-- the registers that a comparison names are there, and what it takes away is a byte, or a number of 16 bits
+abbrev pub ComparedIsThere : Compared → Type 0
+ComparedIsThere Nothing = ⊤
+ComparedIsThere (Byte d source) = (d < 32) × AgainstFits source
+ComparedIsThere (Pair d low high) = (d < 31) × AgainstFits low × (high < 32)
+ComparedIsThere (Result d k old) = (d < 32) × (k ≤ 255)
+ComparedIsThere (PairResult d k old) = (d < 31) × (k ≤ 65535)
+ComparedIsThere (Value d) = d < 32
+
+-- by the rules of version 2, and outside main, nothing is known of comparisons
+abbrev pub ComparedKnown : RuleVersion → Kind → Compared → Type 0
+ComparedKnown Two kind c = c ≡ Nothing
+ComparedKnown Three Main c = ComparedIsThere c
+ComparedKnown Three Handler c = c ≡ Nothing
+ComparedKnown Three Alone c = c ≡ Nothing
+
 pub record IsWithinLimits (p : Program) (x : Instance) : Type 0 where
   pub pc : x.pc < 32768
   pub register_count : length x.regs ≡ 32
@@ -40,6 +60,7 @@ pub record IsWithinLimits (p : Program) (x : Instance) : Type 0 where
   pub hulls : (k : ℕ) → k < 3 → slice_get x.pairs k ≡ Some whole_pair → IsOpen (hull_at x.regs (26 + 2 * k))
   pub flag_count : length x.flags ≡ 7
   pub flags : Each (BitFits x.kind) x.flags
+  pub compared : ComparedKnown p.head.version x.kind x.compared
   pub slots : length x.stack.items ≤ depth_of p.head x.kind
   pub stack : Each (OldFits x.kind) x.stack.items
   -- a range for each cell that its kind tracks, within the header's

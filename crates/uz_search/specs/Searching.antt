@@ -24,7 +24,8 @@ pub record Treated (image : Flash) (p : Program) (nodes : List Instance) (marks 
     (x : Instance) : Type 0 where
   pub next : Next
   pub after : After image p x (Ok next)
-  pub some : (y : Instance) × (slice_get next.out.items 0 ≡ Some y)
+  -- of main no result may be left
+  pub some : x.kind ≢ Main → (y : Instance) × (slice_get next.out.items 0 ≡ Some y)
   pub clear : (why : Fail) → StuckWith image p x next why → ⊥
   pub seen : x.kind ≢ Main → SeenOnWay p x (most_clocks p x next.out.items) next.emit marks
   pub noted : next.back ≡ true → (end : Instance) → slice_get next.out.items 0 ≡ Some end → Noted returns end
@@ -70,7 +71,8 @@ IsEnded image p s = IsSearchOf image p s (length s.nodes.keys)
 pub record Treats (image : Flash) (p : Program) (x : Instance) (by : ℕ) (marks marks' : List Mark)
     (returns returns' : List (Option Return)) (next : Next) : Type 0 where
   pub after : After image p x (Ok next)
-  pub some : (y : Instance) × (slice_get next.out.items 0 ≡ Some y)
+  -- of main no result may be left
+  pub some : x.kind ≢ Main → (y : Instance) × (slice_get next.out.items 0 ≡ Some y)
   pub clear : (why : Fail) → StuckWith image p x next why → ⊥
   pub seen : x.kind ≢ Main → SeenOnWay p x (most_clocks p x next.out.items) next.emit marks'
   pub noted : next.back ≡ true → (end : Instance) → slice_get next.out.items 0 ≡ Some end → Noted returns' end

@@ -5,7 +5,7 @@ ghost use Rattle.uz_search.specs.Complete.{EndedFallsOnce, EndedLevelsFit, Ended
 ghost use Rattle.uz_search.specs.Complete.{EndedPassesLocal};
 ghost use Rattle.uz_search.specs.Limits.{EndedWithinLimits, LiesInWidened};
 
-use uz_rules::place_holds;
+use uz_rules::{known_in_itself, place_holds};
 
 /// Each line of the schedule falls: sync 0 stands at the fall, nothing before it, and no other sync 0.
 pub fn ended_falls_once()
@@ -47,6 +47,7 @@ pub fn lies_in_widened()
     ensures { LiesInWidened }
 {
     place_holds();
+    known_in_itself();
 }
 
 /// A certificate that is made of an ended search, with points for its instances, is accepted.

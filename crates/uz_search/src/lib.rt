@@ -9,6 +9,7 @@ mod facts;
 mod found;
 mod instances;
 mod laws;
+mod loosened;
 mod marks;
 mod passing;
 mod place;

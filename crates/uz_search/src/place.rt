@@ -1,9 +1,9 @@
 //! The places that facts speak of: 0 to 31 the registers, 32 to 34 the pairs X, Y and Z. No place tells of another one.
 
 ghost use Rattle.std.specs.Prelude.{◌≡◌};
-ghost use Rattle.uz_search.specs.Widenings.{is_whole as is_whole_pair};
 ghost use Rattle.uz_search.specs.Places.{IsTold, told};
 
+use crate::loosened::is_whole;
 use crate::widening::Widening;
 use uz_schedule::Wide;
 
@@ -12,13 +12,6 @@ pub(crate) const REGISTERS: usize = 32;
 
 /// How many pairs there are.
 pub(crate) const PAIRS: usize = 3;
-
-/// Whether a range has every 16-bit number.
-fn is_whole(range: Wide) -> bool
-    ensures { result ≡ is_whole_pair range }
-{
-    range.lo() == 0 && range.hi() == 65535
-}
 
 /// The place that a fact speaks of, and its range there. None where it says nothing: a register or pair that isn't there,
 /// or the whole range of a pair.

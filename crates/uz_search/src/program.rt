@@ -100,7 +100,7 @@ fn push_entries(
     Ok(())
 }
 
-/// A copy of an instance that comes to its program counter, widened by the facts there. Takes no memory.
+/// A copy of an instance that comes to its program counter, loosened, and widened by the facts there. Takes no memory.
 pub fn widened_copy(program: &Program, at: &Instance) -> Instance
     ensures { result ≡ widened program.now at.now }
 {
@@ -126,7 +126,7 @@ fn entries_after(
     Ok(follow)
 }
 
-/// Results, each widened by the facts of its program counter.
+/// Results, each loosened, and widened by the facts of its program counter.
 fn widened_all(
     alloc: Global,
     program: &Program,

@@ -13,7 +13,7 @@ use Rattle.uz_search.specs.Stuck.{StuckWith}
 use Rattle.uz_search.specs.Searching.{AreMarked, MarksWay, NotesEnd, ShownBefore}
 use Rattle.uz_search.proofs.OneResult.{steps}
 use Rattle.uz_search.specs.Following.{After, Flash, place_on}
-use Rattle.uz_search.proofs.Results.{passes_within, some_result, stands_next}
+use Rattle.uz_search.proofs.Results.{apart_main, passes_within, some_result, stands_next}
 use Rattle.uz_search.proofs.SearchingLemmas.{treats_from}
 use Rattle.uz_search.proofs.asking.examine.Goals as goal
 
@@ -53,8 +53,8 @@ returns-clause-ok c =
     let x = c.args.at.now in
     let next = c.put_results.new.next in
     treats_from image program x c.args.by c.args.marks.now c.mark_way.new.marks c.args.returns.now c.note_end.new.returns next
-    c.in_default.ensures.ok (some_result image program x next (steps image program x next c.in_default.ensures.ok)
-    c.is_ordered.ensures)
+    c.in_default.ensures.ok (λ apart. some_result image program x next (steps image program x next c.in_default.ensures.ok)
+    (apart_main x.kind apart) c.is_ordered.ensures)
     c.in_default-stuck.ensures.none c.in_default-mark_way.ensures
     (subst (λ (o : Option ℕ). NotesEnd next c.args.by c.args.returns.now o c.note_end.new.returns) c.in_default-2.is c.in_ok-other.ensures)
 
