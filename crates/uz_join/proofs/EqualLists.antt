@@ -2,17 +2,22 @@
 use Rattle.std.proofs.Common.{◌≡◌, true, refl, sym, ap, List, true≢false}
 use Rattle.std.proofs.lemmas.Bool.{eqb-true}
 use lib.Pointwise.{pointwise}
-use Rattle.uz_schedule.specs.Exact.{exact_bit, exact_list, exact_wide, left, right}
+use Rattle.uz_schedule.specs.Exact.{exact_bit, exact_compared, exact_list, exact_wide, left, right}
 use Rattle.uz_schedule.specs.declared.facts.Bit.{Bit}
+use Rattle.uz_schedule.specs.declared.facts.Compared.{Compared}
 use Rattle.uz_schedule.specs.declared.facts.PairFact.{PairFact}
 use Rattle.uz_schedule.specs.declared.facts.PairFact.TheVariants.{Any, Between, Line, Loop}
 use Rattle.uz_schedule.specs.declared.ranges.Wide.{Wide}
 use Rattle.uz_schedule.specs.contracts.facts.BitPartialEq as bits
+use Rattle.uz_schedule.specs.contracts.facts.ComparedPartialEq as comparisons
 use Rattle.uz_schedule.specs.contracts.facts.PairFactPartialEq as facts
 use Rattle.uz_schedule.specs.contracts.ranges.WidePartialEq as wides
 
 pub equal_flags : (a b : List Bit) → pointwise (bits.TheImpl.eq-value).it a b ≡ true → a ≡ b
 equal_flags = exact_list (bits.TheImpl.eq-value).it exact_bit
+
+pub equal_compared : (a b : Compared) → (comparisons.TheImpl.eq-value).it a b ≡ true → a ≡ b
+equal_compared = exact_compared
 
 pub equal_ranges : (a b : List Wide) → pointwise (wides.TheImpl.eq-value).it a b ≡ true → a ≡ b
 equal_ranges = exact_list (wides.TheImpl.eq-value).it exact_wide

@@ -1,10 +1,12 @@
 -- The point that says what an instance says, and the point of a handler's first states.
 use Rattle.std.specs.Prelude.{◌≡◌, ⊤, ℕ, zero, suc, ◌-◌, ◌&&◌, nat_eq, nat_lt, pos, Bool, false, List, [], ◌∷◌, Some, map, slice_get}
-use Rattle.std.specs.Prelude.{slice_index_or, replicate, if◌then◌else◌}
+use Rattle.std.specs.Prelude.{None, slice_index_or, replicate, if◌then◌else◌}
 use Rattle.uz_schedule.specs.Ends.{Ends, whole_byte, whole_pair}
 use Rattle.uz_schedule.specs.Instances.{hull_at}
 use Rattle.uz_schedule.specs.Lines.{Lines}
 use Rattle.uz_schedule.specs.WellFormed.{is_carry_and_zero_default, RangeFits}
+use Rattle.uz_schedule.specs.declared.facts.Compared.{Compared}
+use Rattle.uz_schedule.specs.declared.facts.Compared.TheVariants.{Byte, Nothing, Pair, PairResult, Result, Value}
 use Rattle.uz_schedule.specs.declared.facts.Fact.{Fact}
 use Rattle.uz_schedule.specs.declared.facts.Fact.TheVariants.{Any, Between, Old as OldFact, OldFlags as OldFlagsFact}
 use Rattle.uz_schedule.specs.declared.facts.PairFact.{PairFact}
@@ -68,6 +70,8 @@ point_of x next = record {
   regs = map fact_of x.regs;
   pairs = pair_facts x.kind x.regs x.pairs x.flags;
   flags = x.flags;
+  compared = x.compared;
+  split = None;
   stack = record { items = map fact_of x.stack.items };
   cells = record { items = map byte_fact x.cells.items };
   next = record { items = next };
@@ -96,6 +100,8 @@ vector_point cells line response top next = record {
   regs = old_facts 0 32;
   pairs = AnyPair ∷ AnyPair ∷ AnyPair ∷ [];
   flags = replicate 7 OldBit;
+  compared = Nothing;
+  split = None;
   stack = record { items = [] };
   cells = record { items = map byte_fact cells };
   next = record { items = next };
@@ -121,6 +127,15 @@ AreOrderedVals vals = (i : ℕ) (v : Val) → slice_get vals i ≡ Some v → Is
 abbrev pub AreOrdered : ℕ → List Ends → Type 0
 AreOrdered top ranges = (i : ℕ) (e : Ends) → slice_get ranges i ≡ Some e → RangeFits top e
 
+-- of the numbers from which a constant was taken away
+abbrev pub IsOrderedCompared : Compared → Type 0
+IsOrderedCompared Nothing = ⊤
+IsOrderedCompared (Byte d source) = ⊤
+IsOrderedCompared (Pair d low high) = ⊤
+IsOrderedCompared (Result d k old) = RangeFits 255 old
+IsOrderedCompared (PairResult d k old) = RangeFits 65535 old
+IsOrderedCompared (Value d) = ⊤
+
 -- all ranges of an instance are in order
 pub record IsOrdered (x : Instance) : Type 0 where
   pub registers : AreOrderedVals x.regs
@@ -128,3 +143,4 @@ pub record IsOrdered (x : Instance) : Type 0 where
   pub stack : AreOrderedVals x.stack.items
   pub cells : AreOrdered 255 x.cells.items
   pub temp : RangeFits 255 x.temp
+  pub compared : IsOrderedCompared x.compared

@@ -17,13 +17,13 @@ fn says_place(point: &Point, at: &Instance, line: u16, count: u8) -> bool
 }
 
 /// Whether a point says at a line and a count what is known in an instance.
-#[tactic(auto, using(crate::proofs::EqualLists::equal_flags))]
+#[tactic(auto, using(crate::proofs::EqualLists::equal_flags, crate::proofs::EqualLists::equal_compared))]
 fn says_known(point: &Point, at: &Instance, line: u16, count: u8) -> bool
     ensures { result ≡ true → SameKnown at.now (instance_of point.now line count at.now.clock at.now.level) }
 {
     (say(&point.regs, &at.regs, line, count)
         && say_pairs(&point.pairs, &at.regs, &at.pairs, line, count))
-        && (at.flags == point.flags
+        && ((at.flags == point.flags && at.compared == point.compared)
             && (say(point.stack.as_slice(), at.stack.as_slice(), line, count)
                 && say_cells(point.cells.as_slice(), at.cells.as_slice(), line, count)))
 }
@@ -48,11 +48,12 @@ fn same_place(a: &Point, b: &Point, line: u16, of_a: u8, of_b: u8) -> bool
 }
 
 /// Whether two points say that the same is known at a line, each at its count.
-#[tactic(auto, using(crate::proofs::EqualLists::equal_flags))]
+#[tactic(auto, using(crate::proofs::EqualLists::equal_flags, crate::proofs::EqualLists::equal_compared))]
 fn same_known(a: &Point, b: &Point, line: u16, of_a: u8, of_b: u8) -> bool
     ensures { result ≡ true → SameKnown (instance_of a.now line of_a 0 0) (instance_of b.now line of_b 0 0) }
 {
-    (a.flags == b.flags && say_same_pairs(&a.pairs, &b.pairs, of_a, of_b))
+    ((a.flags == b.flags && a.compared == b.compared)
+        && say_same_pairs(&a.pairs, &b.pairs, of_a, of_b))
         && (say_same(&a.regs, &b.regs, line, of_a, of_b)
             && (say_same(a.stack.as_slice(), b.stack.as_slice(), line, of_a, of_b)
                 && say_same_cells(a.cells.as_slice(), b.cells.as_slice(), line, of_a, of_b)))

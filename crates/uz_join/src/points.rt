@@ -3,13 +3,13 @@
 ghost use Rattle.std.specs.Prelude.{◌≡◌, ◌<◌, ◌≤◌, ◌&&◌, length, map};
 ghost use Rattle.uz_schedule.specs.Instances.{hull_at, span_of_val};
 ghost use Rattle.uz_schedule.specs.WellFormed.{RangeFits, is_default_flag as default_flag, is_carry_and_zero_default as both_default};
-ghost use Rattle.uz_join.specs.Points.{AreOrdered, AreOrderedVals, IsOrdered, IsOrderedVal, byte_fact as fact_of_byte};
+ghost use Rattle.uz_join.specs.Points.{AreOrdered, AreOrderedVals, IsOrdered, IsOrderedCompared, IsOrderedVal, byte_fact as fact_of_byte};
 ghost use Rattle.uz_join.specs.Points.{fact_of as fact_of_val, same_ends, range_fact as fact_of_range};
 ghost use Rattle.uz_join.specs.Points.{pair_fact as fact_of_pair, pair_facts as facts_of_pairs, point_of as point_for};
 ghost use Rattle.uz_join.specs.Points.{old_facts as facts_of_old, vector_point as vector_for};
 
 use arrayvec::ArrayVec;
-use uz_schedule::{Bit, Fact, Instance, Kind, PairFact, Point, Span, Val, Wide, hull};
+use uz_schedule::{Bit, Compared, Fact, Instance, Kind, PairFact, Point, Span, Val, Wide, hull};
 
 /// The word address of the vector of timer 1's compare match A (ATmega644 data sheet).
 const VECTOR: u16 = 26;
@@ -163,6 +163,29 @@ fn byte_range(range: Span) -> Span
     Span::between(range.lo(), range.hi())
 }
 
+/// A range of numbers of 16 bits, whose ends are in order.
+fn wide_range(range: Wide) -> Wide
+    ensures is { result ≡ range }
+    ensures ordered { RangeFits 65535 range }
+{
+    Wide::between(range.lo(), range.hi())
+}
+
+/// What the flags tell, whose range is in order.
+fn compared_of(compared: Compared) -> Compared
+    ensures is { result ≡ compared }
+    ensures ordered { IsOrderedCompared compared }
+{
+    match compared {
+        Compared::Nothing => Compared::Nothing,
+        Compared::Byte(d, source) => Compared::Byte(d, source),
+        Compared::Pair(d, low, high) => Compared::Pair(d, low, high),
+        Compared::Result(d, k, old) => Compared::Result(d, k, byte_range(old)),
+        Compared::PairResult(d, k, old) => Compared::PairResult(d, k, wide_range(old)),
+        Compared::Value(d) => Compared::Value(d),
+    }
+}
+
 /// The point of an instance at its line and count 0, with the numbers of the points where it leads. Takes no memory.
 pub fn point_of(at: &Instance, next: ArrayVec<u32, 16>) -> Point
     ensures is { result ≡ point_for at.now next.items }
@@ -183,6 +206,8 @@ pub fn point_of(at: &Instance, next: ArrayVec<u32, 16>) -> Point
         regs: register_facts(&at.regs),
         pairs: pair_facts(at),
         flags: at.flags,
+        compared: compared_of(at.compared),
+        split: None,
         stack: slot_facts(&at.stack),
         cells: cell_facts(&at.cells),
         next,
@@ -227,6 +252,8 @@ pub fn vector_point(
         regs: old_facts(),
         pairs: [PairFact::Any; 3],
         flags: [Bit::Old; 7],
+        compared: Compared::Nothing,
+        split: None,
         stack: ArrayVec::new(),
         cells: cell_facts(cells),
         next,

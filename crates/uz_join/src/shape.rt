@@ -112,6 +112,7 @@ impl Shaped for Point {
         same_place(axis, self, other)
             && (self.pending == other.pending && self.top == other.top && self.temp == other.temp)
             && self.flags == other.flags
+            && self.compared == other.compared
             && self.pairs == other.pairs
     }
 
@@ -154,6 +155,7 @@ impl Shaped for Instance {
         same_instance_place(axis, self, other)
             && (self.pending == other.pending && self.top == other.top && self.temp == other.temp)
             && self.flags == other.flags
+            && self.compared == other.compared
             && pair_facts(self) == pair_facts(other)
     }
 

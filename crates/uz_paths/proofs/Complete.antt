@@ -1,7 +1,7 @@
 -- The certificate that is made of an ended search is well formed, and accepted.
 use Rattle.std.proofs.Common.{◌≡◌, ◌≢◌, ◌∙◌, sym, ap, refl, arith, inl, inr, ⊎_elim, ◌⊎◌, ℕ, zero, suc, ◌+◌, ◌-◌, ◌*◌, ◌<◌, ◌≤◌, Bool, true}
 use Rattle.std.proofs.Common.{false, List, [], ◌∷◌, map, length, subst, if◌then◌else◌}
-use Rattle.std.specs.Prelude.{Contains, Some, ◌&&◌, ◌||◌, ◌==◌, nat_eq, nat_le, slice_get, unwrap_or}
+use Rattle.std.specs.Prelude.{Contains, Option, Some, ◌&&◌, ◌||◌, ◌==◌, nat_eq, nat_le, slice_get, unwrap_or}
 use Rattle.std.proofs.lemmas.Bool.{cases_eq, cases_lt, or_right, and_parts}
 use Rattle.std.proofs.lemmas.Bool.Decides.{nat_tests}
 use Rattle.std.proofs.lemmas.Option.{get_or_from_slice_get, slice_get-get_or, slice_get_within}
@@ -22,6 +22,7 @@ use Rattle.uz_schedule.specs.declared.states.Entry.{Entry}
 use Rattle.uz_schedule.specs.declared.states.Instance.{Instance}
 use Rattle.uz_schedule.specs.declared.states.Point.{Point}
 use Rattle.uz_schedule.specs.declared.states.Rest.{Rest}
+use Rattle.uz_rules.specs.Cover.{covered_by}
 use Rattle.uz_rules.specs.Inside.{inside, known_inside, place_of_itself, same_place, KnownInItself, PlaceHolds, PlaceTells}
 use Rattle.uz_rules.specs.Successors.{any_from, lies_at, lies_in_any, lies_in_box, lies_in_point}
 use Rattle.uz_check.specs.Acceptance.{Accepts}
@@ -290,11 +291,12 @@ module _ (image : Flash) (p : Program) (entry : Entry) (found : Found) (parts : 
             is = own_instance cert n x own.next own.is (limits x (i, node)).pair_count (clock_in x (i, node)) (level x (i, node));
           }
 
-  succeeded : (x : Instance) (ids : List ℕ) → LeadsToResults image p found.nodes.keys of.numbers x ids → HasSuccessors image p cert ids x
-  succeeded x ids named result y after on there =
+  succeeded : (x : Instance) (ids : List ℕ) (split : Option ℕ) → LeadsToResults image p found.nodes.keys of.numbers x ids
+      → HasSuccessors image p cert ids split x
+  succeeded x ids split named result y after on there =
       let h = named result y after on there in
-      any_named cert ids h.named.0 h.number y h.named.1
-      (lies laws.tells cert h.number (widened p y) y (known h.place h.number (widened p y) h.node h.is) (laws.widens p y))
+      ap (λ b. b || covered_by cert ids split y) (any_named cert ids h.named.0 h.number y h.named.1
+      (lies laws.tells cert h.number (widened p y) y (known h.place h.number (widened p y) h.node h.is) (laws.widens p y)))
 
   -- Points
 
@@ -362,7 +364,7 @@ module _ (image : Flash) (p : Program) (entry : Entry) (found : Found) (parts : 
             is = ap (λ l. instance_at cert id l c) (sym same ∙ sym (same_next v.rest.line)) ∙ k;
             node = first id c v.rest v.at le;
             pc = sym (ap (λ (z : Point). z.pc) v.is);
-            named = succeeded x point.next.items (of.named.vectors id v.rest point v.below v.at at c le);
+            named = succeeded x point.next.items point.split (of.named.vectors id v.rest point v.below v.at at c le);
           }
 
       own : IsOwn id point → StandsFor image p found cert id l c point
@@ -384,8 +386,8 @@ module _ (image : Flash) (p : Program) (entry : Entry) (found : Found) (parts : 
                 (clock_in o.x node) (level o.x node);
             node = node;
             pc = sym (ap (λ (z : Point). z.pc) o.is);
-            named = succeeded o.x point.next.items (of.named.own o.place id o.x point (slice_get_within found.nodes.keys o.place o.x o.node)
-                o.node o.number o.low at);
+            named = succeeded o.x point.next.items point.split
+                (of.named.own o.place id o.x point (slice_get_within found.nodes.keys o.place o.x o.node) o.node o.number o.low at);
           }
 
   is_rest : (rest : Rest) → Contains parts.rests.items rest → IsRestOf found cert rest

@@ -28,7 +28,7 @@ use Rattle.uz_rules.specs.declared.next.Next.{Next}
 use Rattle.uz_search.specs.declared.program.Program.{Program}
 use Rattle.uz_search.specs.Following.{After, Flash}
 pub use Rattle.uz_search.proofs.OneResult.{one_next}
-use Rattle.uz_search.proofs.OneResult.{exits_at, one_result, steps}
+use Rattle.uz_search.proofs.OneResult.{exits_at, few_of_after, one_result}
 use Rattle.uz_paths.specs.Linked.{HasFew}
 
 -- an instance that has results isn't refused
@@ -96,9 +96,9 @@ exits_few image head e clocks following most x some aims fine = omega arith
 
 few_by : (image : Flash) (p : Program) (x : Instance) (most : ℕ) → 2 ≤ most → AimsFew most x → HasFew image p x most
 few_by image p x most some aims result after =
-    let s = steps image p x result after in
+    let s = few_of_after image p x result after in
     let few = exits_few image p.head (effect_of s.row) (clocks_of s.row) (following_of (words_of s.row) x) most x some aims s.fails in
-    subst (λ n. n ≤ most) (sym (ap length s.out ∙ length-map (exits_at image x s.row) _)) few
+    omega (arith, s.few, few)
 
 pub few_results : (image : Flash) (p : Program) (x : Instance) → HasFew image p x 16
 few_results image p x = few_by image p x 16 (omega arith) aims

@@ -7,6 +7,7 @@ use Rattle.std.proofs.lemmas.Option.{slice_get_within, same_Some}
 use Rattle.avr_asm.specs.declared.output.Hint.{Hint as SourceHint}
 use Rattle.avr_asm.specs.declared.output.Hint.TheVariants.{Fact}
 use Rattle.uz_schedule.specs.declared.kinds.Response.{Response}
+use Rattle.uz_schedule.specs.declared.kinds.RuleVersion.{RuleVersion}
 use Rattle.uz_schedule.specs.declared.certificate.Cert.{Cert}
 use Rattle.uz_schedule.specs.declared.states.Entry.{Entry}
 use Rattle.uz_schedule.specs.declared.states.Instance.{Instance}
@@ -23,7 +24,7 @@ use Rattle.uz_paths.specs.Faults.{IsFine, FactPart, FactsFine}
 use Rattle.uz_paths.specs.Reading.{IsReading}
 use Rattle.uz_paths.specs.declared.certificate.Parts.{Parts}
 use Rattle.uz_paths.specs.Certificate.{ArePartsOf, cert_of}
-use Rattle.uz_paths.specs.Finding.{instance_limit, Cause, NoCause, IsFoundBy, IsAsked}
+use Rattle.uz_paths.specs.Finding.{instance_limit, any_version, only, Cause, CauseBy, IsBy, Licensed, NoCause, IsFoundBy, IsAsked, Versions}
 use Rattle.uz_paths.specs.ProgramOf.{IsProgramOf, start_entry, entry_with}
 use Rattle.uz_paths.proofs.RestLemmas.{is_return}
 
@@ -48,14 +49,40 @@ pub facts_fine : (image : FinMap nat_cmp ℕ) (irq : Response) (hints : List Sou
     → FactsFine hints
 facts_fine image irq hints r is i h there = fact_part image irq hints i h (is.fine i h (slice_get_within hints i h there) there)
 
-pub licensed : (image : FinMap nat_cmp ℕ) (irq : Response) (hints : List SourceHint) (p : Program) (e : NotFound) → IsProgramOf irq hints p
-    → Refusal image p instance_limit e → Cause image irq hints e
-licensed image irq hints p (Stuck trail why) of shows = record { program = p; of = of; shows = shows }
-licensed image irq hints p (Split first second) of shows = record { program = p; of = of; shows = shows }
-licensed image irq hints p (Full instances) of shows = record { program = p; of = of; shows = shows }
-licensed image irq hints p (Hint index) of shows = absurd shows
-licensed image irq hints p (NoRest count) of shows = record { program = p; of = of; shows = shows }
-licensed image irq hints p Memory of shows = tt
+pub licensed : (version : RuleVersion) (image : FinMap nat_cmp ℕ) (irq : Response) (hints : List SourceHint) (p : Program) (e : NotFound)
+    → IsProgramOf irq hints p → p.head.version ≡ version → Refusal image p instance_limit e → CauseBy (only version) image irq hints e
+licensed version image irq hints p (Stuck trail why) of rules shows = record { program = p; of = of; rules = rules; shows = shows }
+licensed version image irq hints p (Split first second) of rules shows = record { program = p; of = of; rules = rules; shows = shows }
+licensed version image irq hints p (Full instances) of rules shows = record { program = p; of = of; rules = rules; shows = shows }
+licensed version image irq hints p (Hint index) of rules shows = absurd shows
+licensed version image irq hints p (NoRest count) of rules shows = record { program = p; of = of; rules = rules; shows = shows }
+licensed version image irq hints p Memory of rules shows = tt
+
+any_licence : (version : RuleVersion) (image : FinMap nat_cmp ℕ) (irq : Response) (hints : List SourceHint) (e : NotFound)
+    → Licensed (only version) image irq hints e → Licensed any_version image irq hints e
+any_licence version image irq hints e h = record { program = h.program; of = h.of; rules = tt; shows = h.shows }
+
+-- a cause by the rules of one version is a cause
+pub any_cause : (version : RuleVersion) (image : FinMap nat_cmp ℕ) (irq : Response) (hints : List SourceHint) (e : NotFound)
+    → CauseBy (only version) image irq hints e → Cause image irq hints e
+any_cause version image irq hints (Stuck trail why) h = any_licence version image irq hints (Stuck trail why) h
+any_cause version image irq hints (Split first second) h = any_licence version image irq hints (Split first second) h
+any_cause version image irq hints (Full instances) h = any_licence version image irq hints (Full instances) h
+any_cause version image irq hints (Hint index) h = h
+any_cause version image irq hints (NoRest count) h = any_licence version image irq hints (NoRest count) h
+any_cause version image irq hints Memory h = tt
+
+pub any_err : {A : Type 0} (version : RuleVersion) (image : FinMap nat_cmp ℕ) (irq : Response) (hints : List SourceHint)
+    (answer : Result A NotFound) → IfErr answer (CauseBy (only version) image irq hints) → IfErr answer (Cause image irq hints)
+any_err version image irq hints (Ok found) h = tt
+any_err version image irq hints (Err e) h = any_cause version image irq hints e h
+
+-- what is found has the program's version
+pub ok_by : (version : RuleVersion) (image : FinMap nat_cmp ℕ) (p : Program) (entry : Entry) (answer : Result (Option Cert) NotFound)
+    → p.head.version ≡ version → IfOk answer (λ o. IfSome o (IsFoundBy image p entry)) → IfOk answer (λ o. IfSome o (IsBy version))
+ok_by version image p entry (Ok (Some cert)) rules found = ap (λ h. h.version) found.head ∙ rules
+ok_by version image p entry (Ok None) rules found = tt
+ok_by version image p entry (Err why) rules found = tt
 
 pub asked : (image : FinMap nat_cmp ℕ) (irq : Response) (hints : List SourceHint) (r : Reading) (p : Program) (entry : Entry) (cert : Cert)
     → IsReading image irq hints r → IsProgramOf irq hints p → p.head ≡ r.head
@@ -75,11 +102,11 @@ ok_asked image irq hints r p entry (Ok (Some cert)) is of head e found = asked i
 ok_asked image irq hints r p entry (Ok None) is of head e found = tt
 ok_asked image irq hints r p entry (Err why) is of head e found = tt
 
-pub err_cause : {A : Type 0} (image : FinMap nat_cmp ℕ) (irq : Response) (hints : List SourceHint) (p : Program) (answer : Result A NotFound)
-    → IsProgramOf irq hints p
-    → IfErr answer (Refusal image p instance_limit) → IfErr answer (Cause image irq hints)
-err_cause image irq hints p (Ok found) of shows = tt
-err_cause image irq hints p (Err e) of shows = licensed image irq hints p e of shows
+pub err_cause : {A : Type 0} (version : RuleVersion) (image : FinMap nat_cmp ℕ) (irq : Response) (hints : List SourceHint) (p : Program)
+    (answer : Result A NotFound) → IsProgramOf irq hints p → p.head.version ≡ version
+    → IfErr answer (Refusal image p instance_limit) → IfErr answer (CauseBy (only version) image irq hints)
+err_cause version image irq hints p (Ok found) of rules shows = tt
+err_cause version image irq hints p (Err e) of rules shows = licensed version image irq hints p e of rules shows
 
 pub no_hint : (r : Reading) (index : ℕ) → Ok r ≡ Err index → ⊥
 no_hint r index e = cc
@@ -92,7 +119,7 @@ pub some_both : {A : Type 0} (P Q : A → Type 0) (o : Option A) → IfSome o P 
 some_both P Q None p q = p
 some_both P Q (Some x) p q = (p, q)
 
-err_is : {A : Type 0} (a b : NotFound) → ◌≡◌ {A = Result A NotFound} (Err a) (Err b) → a ≡ b
+pub err_is : {A : Type 0} (a b : NotFound) → ◌≡◌ {A = Result A NotFound} (Err a) (Err b) → a ≡ b
 err_is a b e = cc
 
 -- where something is found, no hint is at fault
@@ -110,12 +137,13 @@ refused_alike why index (inl e) = inl (ap Err (err_is why (Hint index) e))
 refused_alike why index (inr e) = inr (ap Err (err_is why Memory e))
 
 -- without a cause there is a certificate, or memory lacks
-pub complete_answer : {A : Type 0} (image : FinMap nat_cmp ℕ) (irq : Response) (hints : List SourceHint) (answer : Result A NotFound)
-    → IfErr answer (Cause image irq hints) → NoCause image irq hints → IsOk answer ⊎ (answer ≡ Err Memory)
-complete_answer image irq hints (Ok found) cause none = inl refl
-complete_answer image irq hints (Err (Stuck trail why)) cause none = absurd (none (Stuck trail why) (λ h. cc) cause)
-complete_answer image irq hints (Err (Split first second)) cause none = absurd (none (Split first second) (λ h. cc) cause)
-complete_answer image irq hints (Err (Full instances)) cause none = absurd (none (Full instances) (λ h. cc) cause)
-complete_answer image irq hints (Err (Hint index)) cause none = absurd (none (Hint index) (λ h. cc) cause)
-complete_answer image irq hints (Err (NoRest count)) cause none = absurd (none (NoRest count) (λ h. cc) cause)
-complete_answer image irq hints (Err Memory) cause none = inr refl
+pub complete_answer : {A : Type 0} (version : RuleVersion) (image : FinMap nat_cmp ℕ) (irq : Response) (hints : List SourceHint)
+    (answer : Result A NotFound) → IfErr answer (CauseBy (only version) image irq hints) → NoCause version image irq hints
+    → IsOk answer ⊎ (answer ≡ Err Memory)
+complete_answer version image irq hints (Ok found) cause none = inl refl
+complete_answer version image irq hints (Err (Stuck trail why)) cause none = absurd (none (Stuck trail why) (λ h. cc) cause)
+complete_answer version image irq hints (Err (Split first second)) cause none = absurd (none (Split first second) (λ h. cc) cause)
+complete_answer version image irq hints (Err (Full instances)) cause none = absurd (none (Full instances) (λ h. cc) cause)
+complete_answer version image irq hints (Err (Hint index)) cause none = absurd (none (Hint index) (λ h. cc) cause)
+complete_answer version image irq hints (Err (NoRest count)) cause none = absurd (none (NoRest count) (λ h. cc) cause)
+complete_answer version image irq hints (Err Memory) cause none = inr refl

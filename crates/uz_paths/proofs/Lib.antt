@@ -5,6 +5,7 @@ pub mod LinkLemmas
 pub mod MakeLemmas
 pub mod RestLemmas
 pub mod FindLemmas
+pub mod EitherLemmas
 pub mod FewResults
 pub mod MadeSchedule
 pub mod SameInstance

@@ -10,19 +10,22 @@ use Rattle.uz_schedule.specs.Instances.{entry_instance_at, hull_at, old_from}
 use Rattle.uz_schedule.specs.Tracked.{tracked, tracks}
 use Rattle.uz_schedule.specs.WellFormed.{BitFits, CellFits, EntryFactsFit, EntryKindFits, HeadFits, RangeFits, spans_fit}
 use Rattle.uz_schedule.specs.declared.facts.Bit.TheVariants.{Free, Old as OldBit}
+use Rattle.uz_schedule.specs.declared.facts.Compared.TheVariants.{Nothing}
 use Rattle.uz_schedule.specs.declared.facts.Val.{Val}
 use Rattle.uz_schedule.specs.declared.facts.Val.TheVariants.{Range, Old}
 use Rattle.uz_schedule.specs.declared.header.Cell.{Cell}
 use Rattle.uz_schedule.specs.declared.header.Head.{Head}
 use Rattle.uz_schedule.specs.declared.kinds.Kind.{Kind}
 use Rattle.uz_schedule.specs.declared.kinds.Kind.TheVariants.{Main, Handler, Alone}
+use Rattle.uz_schedule.specs.declared.kinds.RuleVersion.{RuleVersion}
+use Rattle.uz_schedule.specs.declared.kinds.RuleVersion.TheVariants.{Two, Three}
 use Rattle.uz_schedule.specs.declared.states.Entry.{Entry}
 use Rattle.uz_schedule.specs.declared.states.Instance.{Instance}
 use Rattle.uz_search.specs.declared.program.Program.{Program}
 use Rattle.uz_search.specs.Following.{Among}
 use Rattle.uz_search.proofs.Lists.{of_map}
 use Rattle.uz_search.proofs.VisitingLemmas.{some_is}
-use Rattle.uz_search.specs.Limits.{Each, IsOpen, IsWithinLimits, OldFits}
+use Rattle.uz_search.specs.Limits.{ComparedKnown, Each, IsOpen, IsWithinLimits, OldFits}
 use Rattle.uz_paths.specs.declared.reading.Reading.{Reading}
 use Rattle.uz_paths.specs.declared.words.Beginning.{Beginning}
 use Rattle.uz_paths.specs.Reading.{ReadingFits}
@@ -79,6 +82,13 @@ cell_ranges h test (c ∷ cells) all = by (test c) (cell_ranges h test cells (Al
 whole_open : (e : Ends) → Some e ≡ Some whole_pair → IsOpen e
 whole_open e is = let same = some_is e whole_pair is in (ap (λ z. z.lo) same, (let hi = ap (λ z. z.hi) same in omega arith))
 
+-- a start knows nothing of comparisons
+none_known : (version : RuleVersion) (kind : Kind) → ComparedKnown version kind Nothing
+none_known Two kind = refl
+none_known Three Main = tt
+none_known Three Handler = refl
+none_known Three Alone = refl
+
 entry_limits : (p : Program) (start : Beginning) (registers : List Ends) → start.pc < 32768 → length registers ≡ 32 → IsWithinLimits p
     (entry_instance_at (entry_with registers p.head start 0) 1)
 entry_limits p start registers pc count = record {
@@ -89,6 +99,7 @@ entry_limits p start registers pc count = record {
   hulls = hulls;
   flag_count = refl;
   flags = λ i b at. repeated (BitFits start.kind) Free 7 i b tt at;
+  compared = none_known p.head.version start.kind;
   slots = omega arith;
   stack = nothing (OldFits start.kind);
   cells = self_fit (tracked p.head start.kind);
@@ -111,6 +122,7 @@ first_limits p top cells c fit = record {
   hulls = hulls;
   flag_count = refl;
   flags = λ i b at. repeated (BitFits Handler) OldBit 7 i b refl at;
+  compared = none_known p.head.version Handler;
   slots = omega arith;
   stack = nothing (OldFits Handler);
   cells = fit;

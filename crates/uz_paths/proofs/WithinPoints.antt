@@ -1,7 +1,7 @@
 -- The points of instances are within a certificate's limits.
 use Rattle.std.proofs.Common.{◌≡◌, ◌≢◌, ◌∙◌, sym, ap, refl, arith, inl, inr, ◌⊎◌, ℕ, zero, suc, ◌+◌, ◌*◌, ◌<◌, ◌≤◌, Bool, true}
 use Rattle.std.proofs.Common.{false, List, [], ◌∷◌, map, All, length, get_or, subst, if◌then◌else◌}
-use Rattle.std.specs.Prelude.{Some, ◌&&◌, nat_eq, nat_lt, slice_get, slice_index_or, replicate}
+use Rattle.std.specs.Prelude.{None, Some, ◌&&◌, nat_eq, nat_lt, slice_get, slice_index_or, replicate}
 use Rattle.std.proofs.lemmas.Bool.Decides.{nat_tests}
 use Rattle.std.proofs.lemmas.List.{length-map}
 use Rattle.std.proofs.lemmas.List.Elements.{All-cons, All-nil}
@@ -12,8 +12,11 @@ use Rattle.uz_schedule.specs.Limits.{clock_limit, is_top}
 use Rattle.uz_schedule.specs.Instances.{hull_at, span_of_val, val_at}
 use Rattle.uz_schedule.specs.Tracked.{tracked}
 use Rattle.uz_schedule.specs.WellFormed.{BitFits, CellFactFits, FactFits, PairFits, PartFits, PointFits, PointKindFits, IsTimerLeftOut}
+use Rattle.uz_schedule.specs.WellFormed.{ComparedFits, RulesFit, SplitFits}
 use Rattle.uz_schedule.specs.WellFormed.{RangeFits, is_carry_and_zero_default, is_zero_or_one, spans_fit}
 use Rattle.uz_schedule.specs.declared.facts.Bit.TheVariants.{Old as OldBit}
+use Rattle.uz_schedule.specs.declared.facts.Compared.{Compared}
+use Rattle.uz_schedule.specs.declared.facts.Compared.TheVariants.{Byte, Nothing, Pair as ComparedPair, PairResult, Result, Value}
 use Rattle.uz_schedule.specs.declared.facts.Fact.TheVariants.{Any, Between, Old as OldFact}
 use Rattle.uz_schedule.specs.declared.facts.PairFact.{PairFact}
 use Rattle.uz_schedule.specs.declared.facts.PairFact.TheVariants.{Any as AnyPair, Between as BetweenPair, Loop as LoopPair}
@@ -22,15 +25,18 @@ use Rattle.uz_schedule.specs.declared.facts.Val.TheVariants.{Range, Old, OldFlag
 use Rattle.uz_schedule.specs.declared.header.Cell.{Cell}
 use Rattle.uz_schedule.specs.declared.kinds.Kind.{Kind}
 use Rattle.uz_schedule.specs.declared.kinds.Kind.TheVariants.{Main, Handler, Alone}
+use Rattle.uz_schedule.specs.declared.kinds.RuleVersion.{RuleVersion}
+use Rattle.uz_schedule.specs.declared.kinds.RuleVersion.TheVariants.{Two, Three}
 use Rattle.uz_schedule.specs.declared.states.Instance.{Instance}
+use Rattle.uz_schedule.specs.declared.states.Point.{Point}
 use Rattle.uz_search.specs.Following.{lines_of}
 use Rattle.uz_search.specs.declared.program.Program.{Program}
 use Rattle.uz_search.specs.Fitting.{Stands}
 use Rattle.uz_search.proofs.Lists.{of_map}
-use Rattle.uz_search.specs.Limits.{IsOpen, IsWithinLimits, OldFits}
+use Rattle.uz_search.specs.Limits.{ComparedIsThere, ComparedKnown, IsOpen, IsWithinLimits, OldFits}
 use Rattle.uz_paths.specs.Linked.{SuccessorsFit}
-use Rattle.uz_join.specs.Points.{AreOrdered, AreOrderedVals, IsOrdered, IsOrderedVal, byte_fact, fact_of, old_facts, pair_fact, point_of}
-use Rattle.uz_join.specs.Points.{range_fact, same_ends, vector_point}
+use Rattle.uz_join.specs.Points.{AreOrdered, AreOrderedVals, IsOrdered, IsOrderedCompared, IsOrderedVal, byte_fact, fact_of, old_facts}
+use Rattle.uz_join.specs.Points.{pair_fact, point_of, range_fact, same_ends, vector_point}
 use Rattle.uz_paths.proofs.SameInstance.{ends_same, eq_of}
 
 -- Elements
@@ -158,11 +164,32 @@ main_handler e = cc
 alone_handler : Alone ≡ Handler → ⊥
 alone_handler e = cc
 
+-- What is known of comparisons
+
+compared_fits : (c : Compared) → ComparedIsThere c → IsOrderedCompared c → ComparedFits c
+compared_fits Nothing there ordered = tt
+compared_fits (Byte d source) there ordered = there
+compared_fits (ComparedPair d low high) there ordered = there
+compared_fits (Result d k old) there ordered = (there.0, there.1, ordered)
+compared_fits (PairResult d k old) there ordered = (there.0, there.1, ordered)
+compared_fits (Value d) there ordered = there
+
+pub known_fits : (version : RuleVersion) (kind : Kind) (p : Point) → p.split ≡ None → ComparedKnown version kind p.compared
+    → IsOrderedCompared p.compared → RulesFit version kind p
+known_fits Two kind p whole known ordered = (known, whole)
+known_fits Three Main p whole known ordered = (compared_fits p.compared known ordered, subst SplitFits (sym whole) tt)
+known_fits Three Handler p whole known ordered = (known, whole)
+known_fits Three Alone p whole known ordered = (known, whole)
+
+handler_fits : (version : RuleVersion) (p : Point) → p.compared ≡ Nothing → p.split ≡ None → RulesFit version Handler p
+handler_fits Two p nothing whole = (nothing, whole)
+handler_fits Three p nothing whole = (nothing, whole)
+
 pub own_fits : (p : Program) (count : ℕ) (x : Instance) (next : List ℕ) → Stands p x → IsWithinLimits p x
     → x.clock < clock_limit → IsOrdered x → SuccessorsFit count next → PointFits p.head (lines_of p) count (point_of x next)
 own_fits p count x next stands limits early ordered names = record {
   kind = kind x.kind refl;
-  told = ap (λ (z : Instance). point_of z next) stands.told;
+  rules = known_fits p.head.version x.kind (point_of x next) refl limits.compared ordered.compared;
   pc = limits.pc;
   box = record {
     line_order = omega arith;
@@ -237,7 +264,7 @@ pub vector_fits : (p : Program) (count : ℕ) (cells : List Ends) (line response
     → PointFits p.head (lines_of p) count (vector_point cells line response top next)
 vector_fits p count cells line response top next below less last fit ordered names = record {
   kind = record { top = last; temp = record { order = omega arith; high = omega arith } };
-  told = refl;
+  rules = handler_fits p.head.version (vector_point cells line response top next) refl refl;
   pc = omega arith;
   box = record {
     line_order = omega arith;

@@ -5,6 +5,7 @@ use Rattle.std.specs.FinMap.{FinMap}
 use Rattle.avr_asm.specs.declared.output.Hint.{Hint as SourceHint}
 use Rattle.uz_schedule.specs.Schedule.{length_of}
 use Rattle.uz_schedule.specs.declared.kinds.Response.{Response}
+use Rattle.uz_schedule.specs.declared.kinds.RuleVersion.{RuleVersion}
 use Rattle.uz_schedule.specs.declared.states.Instance.{Instance}
 use Rattle.uz_schedule.specs.declared.states.Entry.{Entry}
 use Rattle.uz_schedule.specs.declared.states.Rest.{Rest}
@@ -22,24 +23,44 @@ use Rattle.uz_paths.specs.ProgramOf.{IsProgramOf, start_entry}
 abbrev pub instance_limit : ℕ
 instance_limit = 524288
 
--- what is told of the program by the hints, and the refusal of a search over it
-pub record Licensed (image : FinMap nat_cmp ℕ) (irq : Response) (hints : List SourceHint) (e : NotFound) : Type 0 where
+-- some versions of the rules
+abbrev pub Versions : Type 1
+Versions = RuleVersion → Type 0
+
+abbrev pub any_version : Versions
+any_version version = ⊤
+
+abbrev pub only : RuleVersion → Versions
+only version other = other ≡ version
+
+-- what is told of the program by the hints, and the refusal of a search over it by the rules of such a version
+pub record Licensed (versions : Versions) (image : FinMap nat_cmp ℕ) (irq : Response) (hints : List SourceHint) (e : NotFound)
+    : Type 0 where
   pub program : Program
   pub of : IsProgramOf irq hints program
+  pub rules : versions program.head.version
   pub shows : Refusal image program instance_limit e
 
--- the cause of each answer without a certificate
-abbrev pub Cause : FinMap nat_cmp ℕ → Response → List SourceHint → NotFound → Type 0
-Cause image irq hints (Stuck trail why) = Licensed image irq hints (Stuck trail why)
-Cause image irq hints (Split first second) = Licensed image irq hints (Split first second)
-Cause image irq hints (Full instances) = Licensed image irq hints (Full instances)
-Cause image irq hints (Hint index) = HintRefusal image irq hints index
-Cause image irq hints (NoRest count) = Licensed image irq hints (NoRest count)
-Cause image irq hints Memory = ⊤
+-- the cause of each answer without a certificate by the rules of such a version
+abbrev pub CauseBy : Versions → FinMap nat_cmp ℕ → Response → List SourceHint → NotFound → Type 0
+CauseBy versions image irq hints (Stuck trail why) = Licensed versions image irq hints (Stuck trail why)
+CauseBy versions image irq hints (Split first second) = Licensed versions image irq hints (Split first second)
+CauseBy versions image irq hints (Full instances) = Licensed versions image irq hints (Full instances)
+CauseBy versions image irq hints (Hint index) = HintRefusal image irq hints index
+CauseBy versions image irq hints (NoRest count) = Licensed versions image irq hints (NoRest count)
+CauseBy versions image irq hints Memory = ⊤
 
--- nothing stands that refuses these hints or the program that they tell of
-abbrev pub NoCause : FinMap nat_cmp ℕ → Response → List SourceHint → Type 0
-NoCause image irq hints = (e : NotFound) → e ≢ Memory → Cause image irq hints e → ⊥
+-- by the rules of any
+abbrev pub Cause : FinMap nat_cmp ℕ → Response → List SourceHint → NotFound → Type 0
+Cause image irq hints e = CauseBy any_version image irq hints e
+
+-- nothing stands that refuses these hints or the program that they tell of by the rules of a version
+abbrev pub NoCause : RuleVersion → FinMap nat_cmp ℕ → Response → List SourceHint → Type 0
+NoCause version image irq hints = (e : NotFound) → e ≢ Memory → CauseBy (only version) image irq hints e → ⊥
+
+-- the certificate is judged by the rules of this version
+abbrev pub IsBy : RuleVersion → Cert → Type 0
+IsBy version cert = cert.head.version ≡ version
 
 -- the handler returns so with an instance that lies on a trail
 pub record IsReturn (image : FinMap nat_cmp ℕ) (p : Program) (rest : Rest) : Type 0 where
@@ -62,7 +83,7 @@ pub record IsFoundBy (image : FinMap nat_cmp ℕ) (p : Program) (entry : Entry) 
   pub rests : (rest : Rest) → Contains cert.rests rest → IsReturn image p rest
 
 -- the certificate has the header, the lines, their lengths, the fall and the entry that the hints ask for, and each rest is a return of
--- some trail
+-- some trail, by the rules that the header names
 pub record IsAsked (image : FinMap nat_cmp ℕ) (irq : Response) (hints : List SourceHint) (cert : Cert) : Type 0 where
   pub program : Program
   pub of : IsProgramOf irq hints program

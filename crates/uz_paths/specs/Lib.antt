@@ -1,4 +1,5 @@
 pub mod Certificate
+pub mod Either
 pub mod Finding
 pub mod JoinedParts
 pub mod Kinds

@@ -204,6 +204,7 @@ pub(crate) fn take_head(program: &mut Program) -> Head
         main: 0,
         handler: 0,
         cells: ArrayVec::new(),
+        version: program.head.version,
     };
     replace(&mut program.head, bare)
 }

@@ -2,6 +2,7 @@
 
 ghost use Rattle.std.specs.Prelude.{◌≡◌, ◌<◌, ◌^◌, ◌⊎◌, ℕ, Err, IfOk, IfErr, IfSome, IsOk, IsSome, length};
 ghost use Rattle.uz_schedule.specs.WellFormed.{WellFormed};
+ghost use Rattle.uz_schedule.specs.declared.kinds.RuleVersion.TheVariants.{Two};
 ghost use Rattle.uz_check.specs.Acceptance.{Accepts};
 ghost use Rattle.uz_paths.specs.Faults.{HintRefusal};
 ghost use Rattle.uz_search.specs.Fitting.{ProgramFits};
@@ -10,7 +11,7 @@ ghost use Rattle.uz_search.specs.Searching.{IsEnded};
 ghost use Rattle.uz_join.specs.Joined.{SameButPoints};
 ghost use Rattle.uz_paths.specs.Certificate.{IsEntry, ReturnsFromMain};
 ghost use Rattle.uz_paths.specs.declared.finding.Joining.TheVariants.{LeftOut};
-ghost use Rattle.uz_paths.specs.Finding.{instance_limit, Cause, NoCause, IsFoundBy, IsAsked};
+ghost use Rattle.uz_paths.specs.Finding.{instance_limit, only, Cause, CauseBy, NoCause, IsBy, IsFoundBy, IsAsked};
 
 use crate::certificate::{certificate_of, parts_of};
 use crate::joined::joined_certificate;
@@ -21,7 +22,7 @@ use std::alloc::{AllocError, Global};
 use uz_hex::Image;
 use uz_join::joined;
 use uz_rules::{known_in_itself, place_holds, place_tells};
-use uz_schedule::{Cert, Entry, Response, event_by_line};
+use uz_schedule::{Cert, Entry, Response, RuleVersion, event_by_line};
 use uz_search::{
     Found, NotFound, Program, ended_accepts, ended_falls_once, ended_levels, ended_levels_fit,
     ended_rests_are_quiet, ended_rests_enter, ended_within_limits, lies_in_widened,
@@ -136,25 +137,27 @@ fn find_by(
     }
 }
 
-/// Finds a certificate by the hints of a source. None where its points were let go while they were joined, and the joined certificate isn't
-/// accepted.
+/// Finds a certificate by the hints of a source and the rules of a version. None where its points were let go while they were joined, and
+/// the joined certificate isn't accepted.
 fn find_as(
     alloc: Global,
     image: &Image,
     hints: &[Hint],
     irq: Response,
+    version: RuleVersion,
     joining: Joining,
 ) -> Result<Option<Cert>, NotFound>
     requires { length hints.now < 2 ^ 32 }
     ensures accepted { IfOk result (λ o. IfSome o (λ cert. WellFormed cert × Accepts image.now cert)) }
     ensures asked { IfOk result (λ o. IfSome o (IsAsked image.now irq hints.now)) }
+    ensures version { IfOk result (λ o. IfSome o (IsBy version)) }
     ensures there { joining ≡ LeftOut → IfOk result IsSome }
-    ensures cause { IfErr result (Cause image.now irq hints.now) }
-    ensures complete { NoCause image.now irq hints.now → IsOk result ⊎ (result ≡ Err NotFound.Memory) }
+    ensures cause { IfErr result (CauseBy (only version) image.now irq hints.now) }
+    ensures complete { NoCause version image.now irq hints.now → IsOk result ⊎ (result ≡ Err NotFound.Memory) }
     ensures hint { (index : ℕ) → HintRefusal image.now irq hints.now index
         → (result ≡ Err (NotFound.Hint index)) ⊎ (result ≡ Err NotFound.Memory) }
 {
-    let reading = match read_hints(image, irq, hints) {
+    let reading = match read_hints(image, irq, version, hints) {
         Ok(reading) => reading,
         Err(index) => return Err(NotFound::Hint { index }),
     };
@@ -162,25 +165,57 @@ fn find_as(
     find_by(alloc, image, program, entry, joining)
 }
 
-/// Finds a certificate by the hints of a source. Its points aren't joined.
-fn find_alone(alloc: Global, image: &Image, hints: &[Hint], irq: Response) -> Result<Cert, NotFound>
+/// Finds a certificate by the hints of a source and the rules of a version. Its points aren't joined.
+fn find_alone(
+    alloc: Global,
+    image: &Image,
+    hints: &[Hint],
+    irq: Response,
+    version: RuleVersion,
+) -> Result<Cert, NotFound>
     requires { length hints.now < 2 ^ 32 }
     ensures accepted { IfOk result (λ cert. WellFormed cert × Accepts image.now cert) }
     ensures asked { IfOk result (IsAsked image.now irq hints.now) }
-    ensures cause { IfErr result (Cause image.now irq hints.now) }
-    ensures complete { NoCause image.now irq hints.now → IsOk result ⊎ (result ≡ Err NotFound.Memory) }
+    ensures version { IfOk result (IsBy version) }
+    ensures cause { IfErr result (CauseBy (only version) image.now irq hints.now) }
+    ensures complete { NoCause version image.now irq hints.now → IsOk result ⊎ (result ≡ Err NotFound.Memory) }
     ensures hint { (index : ℕ) → HintRefusal image.now irq hints.now index
         → (result ≡ Err (NotFound.Hint index)) ⊎ (result ≡ Err NotFound.Memory) }
 {
-    match find_as(alloc, image, hints, irq, Joining::LeftOut) {
+    match find_as(alloc, image, hints, irq, version, Joining::LeftOut) {
         Ok(cert) => Ok(cert.unwrap()),
         Err(why) => Err(why),
     }
 }
 
-/// Finds a certificate of an image by the hints of its source: one that `check` accepts with it, with the header, the lines, the fall and
-/// the entry that the hints ask for, where each rest is a return of some trail. Its points are joined line by line and count by count
-/// where the check accepts them so. Where none of the causes stands, only want of memory leaves it without one.
+/// Finds a certificate by the hints of a source and the rules of a version. Its points are joined where the check accepts them so.
+pub(crate) fn find_joined(
+    alloc: Global,
+    image: &Image,
+    hints: &[Hint],
+    irq: Response,
+    version: RuleVersion,
+) -> Result<Cert, NotFound>
+    requires { length hints.now < 2 ^ 32 }
+    ensures accepted { IfOk result (λ cert. WellFormed cert × Accepts image.now cert) }
+    ensures asked { IfOk result (IsAsked image.now irq hints.now) }
+    ensures version { IfOk result (IsBy version) }
+    ensures cause { IfErr result (CauseBy (only version) image.now irq hints.now) }
+    ensures complete { NoCause version image.now irq hints.now → IsOk result ⊎ (result ≡ Err NotFound.Memory) }
+    ensures hint { (index : ℕ) → HintRefusal image.now irq hints.now index
+        → (result ≡ Err (NotFound.Hint index)) ⊎ (result ≡ Err NotFound.Memory) }
+{
+    match find_as(alloc, image, hints, irq, version, Joining::Tried) {
+        Ok(Some(cert)) => Ok(cert),
+        Ok(None) => find_alone(alloc, image, hints, irq, version),
+        Err(why) => Err(why),
+    }
+}
+
+/// Finds a certificate of an image by the hints of its source and the rules of version 2: one that `check` accepts with it, with the
+/// header, the lines, the fall and the entry that the hints ask for, where each rest is a return of some trail. Its points are joined
+/// line by line and count by count where the check accepts them so. Where none of the causes stands, only want of memory leaves it
+/// without one.
 ///
 /// Hint comes exactly where a hint is at fault or start, lines or stack are missing, before all other refusals; Stuck and
 /// Split only with trails that show them; Full only with 524,288 distinct instances that lie on trails; NoRest only where runs
@@ -190,14 +225,12 @@ pub fn find(alloc: Global, image: &Image, hints: &[Hint], irq: Response) -> Resu
     requires { length hints.now < 2 ^ 32 }
     ensures accepted { IfOk result (λ cert. WellFormed cert × Accepts image.now cert) }
     ensures asked { IfOk result (IsAsked image.now irq hints.now) }
+    ensures version { IfOk result (IsBy Two) }
     ensures cause { IfErr result (Cause image.now irq hints.now) }
-    ensures complete { NoCause image.now irq hints.now → IsOk result ⊎ (result ≡ Err NotFound.Memory) }
+    ensures cause_by { IfErr result (CauseBy (only Two) image.now irq hints.now) }
+    ensures complete { NoCause Two image.now irq hints.now → IsOk result ⊎ (result ≡ Err NotFound.Memory) }
     ensures hint { (index : ℕ) → HintRefusal image.now irq hints.now index
         → (result ≡ Err (NotFound.Hint index)) ⊎ (result ≡ Err NotFound.Memory) }
 {
-    match find_as(alloc, image, hints, irq, Joining::Tried) {
-        Ok(Some(cert)) => Ok(cert),
-        Ok(None) => find_alone(alloc, image, hints, irq),
-        Err(why) => Err(why),
-    }
+    find_joined(alloc, image, hints, irq, RuleVersion::Two)
 }

@@ -3,6 +3,7 @@
 
 mod cells;
 mod certificate;
+mod either;
 mod errors;
 mod finding;
 mod joined;
@@ -20,6 +21,7 @@ mod vectors;
 mod words;
 
 pub use cells::Tracked;
+pub use either::find_by_either;
 pub use finding::find;
 pub use reading::{Reading, read_hints};
 pub use rules::{Rule, broken_rule};

@@ -16,7 +16,7 @@ use crate::words::{
 use arrayvec::ArrayVec;
 use avr_asm::Hint;
 use uz_hex::Image;
-use uz_schedule::{Cell, Head, Response, Span};
+use uz_schedule::{Cell, Head, Response, RuleVersion, Span};
 
 /// What the hints of a source say.
 #[derive(Drop)]
@@ -66,9 +66,22 @@ fn start_registers(hints: &[Hint], pc: u16) -> [Span; 32]
     ranges
 }
 
-/// The header that hints ask for.
-fn head_of(irq: Response, stack: StackRegion, cells: ArrayVec<Cell, 16>) -> Head
-    ensures { result ≡ record { irq = irq; lo = stack.lo; hi = stack.hi; main = stack.main; handler = stack.handler; cells = cells } }
+/// The header that hints ask for, by the rules of a version.
+fn head_of(
+    irq: Response,
+    version: RuleVersion,
+    stack: StackRegion,
+    cells: ArrayVec<Cell, 16>,
+) -> Head
+    ensures { result ≡ record {
+      irq = irq;
+      lo = stack.lo;
+      hi = stack.hi;
+      main = stack.main;
+      handler = stack.handler;
+      cells = cells;
+      version = version;
+    } }
 {
     Head {
         irq,
@@ -77,12 +90,14 @@ fn head_of(irq: Response, stack: StackRegion, cells: ArrayVec<Cell, 16>) -> Head
         main: stack.main,
         handler: stack.handler,
         cells,
+        version,
     }
 }
 
 /// Reads hints of which none is at fault.
 fn read_fine(
     irq: Response,
+    version: RuleVersion,
     hints: &[Hint],
     size: FrameSize,
     start: Beginning,
@@ -92,6 +107,7 @@ fn read_fine(
     requires facts { FactsFine hints.now }
     requires stack { first_stack_in hints.now ≡ Some stack }
     ensures head { IsHeader irq hints.now result.head }
+    ensures version { result.head.version ≡ version }
     ensures few { length result.head.cells.items ≤ 16 }
     ensures size { result.size ≡ size }
     ensures start { result.start ≡ start }
@@ -100,7 +116,7 @@ fn read_fine(
 {
     let tracked = cells_of(hints);
     Reading {
-        head: head_of(irq, stack, head_cells(tracked.as_slice())),
+        head: head_of(irq, version, stack, head_cells(tracked.as_slice())),
         size,
         start,
         registers: start_registers(hints, start.pc),
@@ -108,11 +124,12 @@ fn read_fine(
     }
 }
 
-/// Reads hints: what they say, or where they are refused.
+/// Reads hints for the rules of a version: what they say, or where they are refused.
 #[tactic(auto, using(crate::proofs::HintLemmas::cells_fine, crate::proofs::HintLemmas::facts_fine))]
-fn read(image: &Image, irq: Response, hints: &[Hint]) -> Result<Reading, u32>
+fn read(image: &Image, irq: Response, version: RuleVersion, hints: &[Hint]) -> Result<Reading, u32>
     requires { length hints.now < 2 ^ 32 }
     ensures read { IfOk result (IsReading image.now irq hints.now) }
+    ensures version { IfOk result (λ r. r.head.version ≡ version) }
     ensures limits { IfOk result ReadingFits }
     ensures lengths { IfOk result (LengthsFit hints.now) }
     ensures refused { IfErr result (HintRefusal image.now irq hints.now) }
@@ -121,21 +138,30 @@ fn read(image: &Image, irq: Response, hints: &[Hint]) -> Result<Reading, u32>
         return Err(index);
     }
     match (first_start(hints), first_lines(hints), first_stack(hints)) {
-        (Some(start), Some(size), Some(stack)) => Ok(read_fine(irq, hints, size, start, stack)),
+        (Some(start), Some(size), Some(stack)) => Ok(read_fine(
+            irq, version, hints, size, start, stack,
+        )),
         _ => Err(hints.len() as u32),
     }
 }
 
-/// Reads hints for the image that they stand beside. Where one of them is at fault the error is the index of the first such, counted
-/// from 0; where none is, but start, lines or stack are missing, it is the number of hints. Takes no memory.
+/// Reads hints for the image that they stand beside, and for the rules of a version. Where one of them is at fault the error is the
+/// index of the first such, counted from 0; where none is, but start, lines or stack are missing, it is the number of hints. Takes no
+/// memory.
 #[tactic(auto, using(crate::proofs::OneRefusal::exact_answer))]
-pub fn read_hints(image: &Image, irq: Response, hints: &[Hint]) -> Result<Reading, u32>
+pub fn read_hints(
+    image: &Image,
+    irq: Response,
+    version: RuleVersion,
+    hints: &[Hint],
+) -> Result<Reading, u32>
     requires { length hints.now < 2 ^ 32 }
     ensures read { IfOk result (IsReading image.now irq hints.now) }
+    ensures version { IfOk result (λ r. r.head.version ≡ version) }
     ensures limits { IfOk result ReadingFits }
     ensures lengths { IfOk result (LengthsFit hints.now) }
     ensures refused { IfErr result (HintRefusal image.now irq hints.now) }
     ensures exact { (index : ℕ) → HintRefusal image.now irq hints.now index → result ≡ Err index }
 {
-    read(image, irq, hints)
+    read(image, irq, version, hints)
 }
