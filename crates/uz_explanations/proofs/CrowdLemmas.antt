@@ -1,42 +1,49 @@
--- The instances at a program counter, one instance later.
-use Rattle.std.proofs.Common.{◌≡◌, ◌<◌, ◌+◌, ◌-◌, ◌∙◌, ℕ, suc, Bool, true, false, List, [], ◌∷◌, refl, sym, ap, drop, get_or, length, arith, eqb}
-use Rattle.std.proofs.lemmas.Bool.{eq-eqb, eqb-true, ne_eqb}
-use Rattle.std.specs.Prelude.{◌==◌, if◌then◌else◌}
-use Rattle.std.proofs.lemmas.List.{drop_more}
-use Rattle.std.proofs.lemmas.List.Sums.{sum_by-cons}
+-- The instances at a program counter, one block later.
+use Rattle.std.proofs.Common.{◌≡◌, ◌≤◌, ◌<◌, ◌+◌, ◌-◌, ◌∙◌, ℕ, zero, suc, List, [], ◌∷◌, ◌++◌, refl, sym, ap, drop, take, length, min, arith, Bor}
+use Rattle.std.specs.Prelude.{◌==◌}
+use Rattle.std.proofs.lemmas.List.{length-append, length-drop, length-map, take-append-drop}
+use Rattle.std.proofs.lemmas.List.Elements.{filter-append}
+use Rattle.std.proofs.lemmas.List.Sums.{length-filter}
 use Rattle.uz_schedule.specs.declared.states.Instance.{Instance}
 use Rattle.uz_explanations.specs.Counting.{count_at, crowd}
+use Rattle.uz_explanations.proofs.Keeping.{lent}
 
-count_here : (pc : ℕ) (x : Instance) (rest : List Instance) → x.pc ≡ pc → count_at pc (x ∷ rest) ≡ suc (count_at pc rest)
-count_here pc x rest here =
-    let step = sum_by-cons (λ y. if y.pc == pc then 1 else 0) x rest in
-    let one : (if x.pc == pc then 1 else 0) ≡ 1 = rw (eq-eqb x.pc pc here) refl in
-    step ∙ ap (λ n. n + count_at pc rest) one ∙ omega arith
+crowd_length : (pc : ℕ) (xs : List Instance) → length (crowd pc xs) ≡ count_at pc xs
+crowd_length pc xs = length-filter (λ x. x.pc == pc) xs
 
-pub count_other : (pc : ℕ) (x : Instance) (rest : List Instance) → (x.pc ≡ pc → ⊥) → count_at pc (x ∷ rest) ≡ count_at pc rest
-count_other pc x rest other = rw (ne_eqb x.pc pc other) refl
+-- as many as there are
+pub block_count : (pc n : ℕ) (block : List Instance) (here : List (Bor Instance)) → n ≡ length here → lent here ≡ crowd pc block
+    → n ≡ count_at pc block
+block_count pc n block here is all = is ∙ sym (length-map here (λ x. x.now)) ∙ ap length all ∙ crowd_length pc block
 
-pub crowd_here : (pc : ℕ) (x : Instance) (rest : List Instance) → x.pc ≡ pc → crowd pc (x ∷ rest) ≡ x ∷ crowd pc rest
-crowd_here pc x rest here = rw (eq-eqb x.pc pc here) refl
+none : {A : Type 0} (xs : List A) → length xs ≡ 0 → xs ≡ []
+none [] e = refl
+none (x ∷ xs) e = absurd (omega (arith, e))
 
-pub crowd_other : (pc : ℕ) (x : Instance) (rest : List Instance) → (x.pc ≡ pc → ⊥) → crowd pc (x ∷ rest) ≡ crowd pc rest
-crowd_other pc x rest other = rw (ne_eqb x.pc pc other) refl
+pub none_left : (pc left : ℕ) (xs : List Instance) → left ≤ 0 → left ≡ count_at pc xs → crowd pc xs ≡ []
+none_left pc left xs over counted =
+    let len = crowd_length pc xs in none (crowd pc xs) (omega (arith, len, over, counted))
 
-pub none_left : (pc : ℕ) (xs : List Instance) → 0 ≡ count_at pc xs → crowd pc xs ≡ []
-none_left pc [] none = refl
-none_left pc (x ∷ xs) none = by_case (eqb x.pc pc) refl (none_left pc xs)
-  where
-    by_case : (b : Bool) → eqb x.pc pc ≡ b → (0 ≡ count_at pc xs → crowd pc xs ≡ []) → crowd pc (x ∷ xs) ≡ []
-    by_case true e later =
-        let more = count_here pc x xs (eqb-true x.pc pc e) in absurd (omega (arith, none, more))
-    by_case false e later =
-        let same : count_at pc (x ∷ xs) ≡ count_at pc xs = rw e refl in rw e (later (none ∙ same))
+module _ (pc n : ℕ) (rest block later : List Instance) (front : block ≡ take n rest) (back : later ≡ drop n rest) where
+  -- those of a block, and of what is left
+  pub crowd_split : crowd pc rest ≡ crowd pc block ++ crowd pc later
+  crowd_split =
+      ap (crowd pc) (sym (take-append-drop n rest) ∙ ap (λ l. take n rest ++ l) (sym back) ∙ ap (λ l. l ++ later) (sym front))
+      ∙ filter-append (λ x. x.pc == pc) block later
 
--- those of a program counter that are left, one instance later
+  pub count_split : (left here : ℕ) → left ≡ count_at pc rest → here ≡ count_at pc block → left - here ≡ count_at pc later
+  count_split left here counted is =
+      let whole = crowd_length pc rest in
+      let first = crowd_length pc block in
+      let second = crowd_length pc later in
+      let both = ap length crowd_split ∙ length-append (crowd pc block) (crowd pc later) in
+      omega (arith, whole, first, second, both, counted, is)
 
-pub here_left : (pc left : ℕ) (x : Instance) (rest : List Instance) → x.pc ≡ pc → left ≡ count_at pc (x ∷ rest)
-    → left - 1 ≡ count_at pc rest
-here_left pc left x rest here counted = let more = count_here pc x rest here in omega (arith, counted, more)
-
-pub next_one : (xs : List Instance) (i : ℕ) (x : Instance) → i < length xs → x ≡ get_or xs i x → drop i xs ≡ x ∷ drop (i + 1) xs
-next_one xs i x below is = drop_more xs i x below ∙ ap (λ y. y ∷ drop (i + 1) xs) (sym is)
+  -- where one is left, something is left
+  pub later_shorter : (left : ℕ) → 0 < left → left ≡ count_at pc rest → n ≡ min (length rest) 256 → length later < length rest
+  later_shorter left some counted is = by_case rest back counted is
+    where
+      by_case : (xs : List Instance) → later ≡ drop n xs → left ≡ count_at pc xs → n ≡ min (length xs) 256 → length later < length xs
+      by_case [] at counts few = absurd (omega (arith, some, counts))
+      by_case (x ∷ xs) at counts few =
+          let len = ap length at ∙ length-drop n (x ∷ xs) in omega (arith, len, few)

@@ -1,6 +1,8 @@
 pub mod PieceLemmas
 pub mod ReadingLemmas
 pub mod TurnLemmas
+pub mod ShownLemmas
+pub mod SharedLemmas
 pub mod Counts
 pub mod Ranks
 pub mod Values
@@ -8,3 +10,5 @@ pub mod Lines
 pub mod SeenLemmas
 pub mod RankLaws
 pub mod CrowdLemmas
+pub mod Keeping
+pub mod PartLemmas

@@ -1,5 +1,5 @@
 -- The different values of parts, of which some were met and others are left.
-use Rattle.std.specs.Prelude.{ℕ, ◌≡◌, ◌<◌, List, [], get_or, length, map, slice_get}
+use Rattle.std.specs.Prelude.{ℕ, ◌≡◌, ◌<◌, List, [], get_or, length, map}
 use Rattle.uz_schedule.specs.Ends.{Ends}
 use Rattle.uz_schedule.specs.declared.kinds.Kind.TheVariants.{Main, Handler, Alone}
 use Rattle.uz_schedule.specs.declared.facts.Val.TheVariants.{Range}
@@ -12,16 +12,16 @@ use Rattle.uz_explanations.specs.declared.seen.Seen.{Seen}
 use Rattle.uz_explanations.specs.declared.gathering.Values.{Values}
 use Rattle.uz_explanations.specs.declared.gathering.CellValues.{CellValues}
 use Rattle.uz_explanations.specs.Differing.{values}
-use Rattle.uz_explanations.specs.Putting.{keep_all, noted}
+use Rattle.uz_explanations.specs.Putting.{keep_all}
 
 -- the values of the part of this number, none past the last one
 abbrev pub seen_at : {X : Type 0} → (X → Value) → List (Seen X) → ℕ → List Value
 seen_at value seen k = get_or (map (λ s. map value s.values.items) seen) k []
 
--- what is said of each part is kept
-pub record AreNoted {X : Type 0} (value : X → Value) (old new : List (Seen X)) (said : List Value) : Type 0 where
+-- what instances say of each part is kept
+pub record AreKept {X : Type 0} (class : Class) (value : X → Value) (old new : List (Seen X)) (here : List Instance) : Type 0 where
   pub size : length new ≡ length old
-  pub each : (k : ℕ) → k < length old → seen_at value new k ≡ noted (seen_at value old k) (slice_get said k)
+  pub each : (k : ℕ) → k < length old → seen_at value new k ≡ keep_all (seen_at value old k) (values class k here)
 
 -- of n parts of a kind: with what the instances that are left say, the values are those of all
 pub record AreOf {X : Type 0} (class : Class) (n : ℕ) (value : X → Value) (left all : List Instance) (seen : List (Seen X)) : Type 0 where

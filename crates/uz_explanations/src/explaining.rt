@@ -56,7 +56,8 @@ fn add_explanation(
 /// An instance is a line: its kind, and outside main its line of the frame and the clock of it; its program counter; the words and the
 /// text of its instruction as a listing has them; and the nearest label at or before its byte address, with the bytes between. A stretch
 /// of at most 64 instances whose program counters come again is one line. Behind the last instance stands what is known of what its
-/// instruction reads, in the words of a certificate. The one error is want of memory; the time is linear in the trails' lengths.
+/// instruction reads, in the words of a certificate, and of both ways what it shows and at which clock. The one error is want of memory;
+/// the time is linear in the trails' lengths.
 pub fn explain(
     alloc: Global,
     image: &Image,

@@ -1,13 +1,18 @@
 //! The different values of all parts of the instances at a program counter.
 
-ghost use Rattle.std.specs.Prelude.{◌≡◌, IfOk, OnOk, List, [], ◌∷◌};
+ghost use Rattle.std.specs.Prelude.{◌≡◌, IfOk, OnOk, List, [], ◌++◌, map};
 ghost use Rattle.uz_schedule.specs.declared.states.Instance.{Instance as OneInstance};
 ghost use Rattle.uz_explanations.specs.Counting.{count_at, crowd};
 ghost use Rattle.uz_explanations.specs.Seen.{AreAllOf, AreCellsOf};
 
-use crate::seen::{Seen, note_all, unseen};
+use crate::blocks::note_parts;
+use crate::said::{AloneCells, Flags, HandlerCells, MainCells, Pairs, Registers, Slots};
+use crate::seen::{Seen, unseen};
 use std::alloc::{AllocError, Global};
-use uz_schedule::{Bit, Instance, Kind, Span, Val, Wide};
+use uz_schedule::{Bit, Instance, Span, Val, Wide};
+
+/// So many instances are taken at a time.
+const BLOCK: usize = 256;
 
 /// The different values of the cells of each side, by number.
 #[derive(Drop)]
@@ -59,42 +64,60 @@ fn no_values(alloc: Global) -> Result<Values, AllocError>
     })
 }
 
-/// Keeps what an instance says of its side's cells.
-fn note_cells(values: &mut CellValues, x: &Instance) -> Result<(), AllocError>
-    ensures { OnOk result ((rest all : List OneInstance) → AreCellsOf (x.now ∷ rest) all values.old → AreCellsOf rest all values.new) }
+/// The instances of a block at a program counter.
+fn crowd_of(alloc: Global, block: &[Instance], pc: u16) -> Result<Vec<&Instance>, AllocError>
+    ensures { IfOk result (λ v. map (λ x. x.now) v.items ≡ crowd pc block.now) }
 {
-    match x.kind {
-        Kind::Main => note_all(&mut values.main, x.cells.as_slice()),
-        Kind::Handler => note_all(&mut values.handler, x.cells.as_slice()),
-        Kind::Alone => note_all(&mut values.alone, x.cells.as_slice()),
+    let mut here = Vec::new(alloc);
+    for x in block {
+        if x.pc == pc {
+            here.push(x)?;
+        }
     }
+    Ok(here)
 }
 
-/// Keeps what an instance says.
-fn note_instance(values: &mut Values, x: &Instance) -> Result<(), AllocError>
-    ensures { OnOk result ((rest all : List OneInstance) → AreAllOf (x.now ∷ rest) all values.old → AreAllOf rest all values.new) }
+/// Keeps what instances say of the cells of each side.
+fn note_cells(values: &mut CellValues, here: &[&Instance]) -> Result<(), AllocError>
+    ensures { OnOk result ((rest all : List OneInstance)
+        → AreCellsOf (map (λ x. x.now) here.now ++ rest) all values.old → AreCellsOf rest all values.new) }
 {
-    note_all(&mut values.registers, &x.regs)?;
-    note_all(&mut values.pairs, &x.pairs)?;
-    note_all(&mut values.flags, &x.flags)?;
-    note_all(&mut values.slots, x.stack.as_slice())?;
-    note_cells(&mut values.cells, x)?;
+    note_parts::<Span, MainCells>(&mut values.main, here)?;
+    note_parts::<Span, HandlerCells>(&mut values.handler, here)?;
+    note_parts::<Span, AloneCells>(&mut values.alone, here)?;
     Ok(())
 }
 
-/// Keeps what an instance says, if it stands at a program counter, of whose instances so many are left. So many are left then.
-fn note_at(values: &mut Values, x: &Instance, pc: u16, left: u32) -> Result<u32, AllocError>
-    ensures { IfOk result (λ next. (rest all : List OneInstance) → AreAllOf (crowd pc (x.now ∷ rest)) all values.old
-        → left ≡ count_at pc (x.now ∷ rest) → AreAllOf (crowd pc rest) all values.new × (next ≡ count_at pc rest)) }
+/// Keeps what instances say.
+fn note_crowd(values: &mut Values, here: &[&Instance]) -> Result<(), AllocError>
+    ensures { OnOk result ((rest all : List OneInstance)
+        → AreAllOf (map (λ x. x.now) here.now ++ rest) all values.old → AreAllOf rest all values.new) }
 {
-    if x.pc != pc {
-        return Ok(left);
-    }
-    note_instance(values, x)?;
-    Ok(left.saturating_sub(1))
+    note_parts::<Val, Registers>(&mut values.registers, here)?;
+    note_parts::<Wide, Pairs>(&mut values.pairs, here)?;
+    note_parts::<Bit, Flags>(&mut values.flags, here)?;
+    note_parts::<Val, Slots>(&mut values.slots, here)?;
+    note_cells(&mut values.cells, here)?;
+    Ok(())
 }
 
-/// The different values of the instances at a program counter, of which there are so many.
+/// Keeps what the instances of a block at a program counter say, and answers how many there are.
+fn note_block(
+    alloc: Global,
+    values: &mut Values,
+    block: &[Instance],
+    pc: u16,
+) -> Result<usize, AllocError>
+    ensures { IfOk result (λ count. (count ≡ count_at pc block.now) × ((rest all : List OneInstance)
+        → AreAllOf (crowd pc block.now ++ rest) all values.old → AreAllOf rest all values.new)) }
+{
+    let here = crowd_of(alloc, block, pc)?;
+    note_crowd(values, here.as_slice())?;
+    Ok(here.len())
+}
+
+/// The different values of the instances at a program counter, of which there are so many. They are taken block by block, and of a
+/// block part by part, since a part mostly has the value that came last.
 pub(crate) fn values_at(
     alloc: Global,
     instances: &[Instance],
@@ -105,12 +128,12 @@ pub(crate) fn values_at(
     ensures { IfOk result (AreAllOf [] (crowd pc instances.now)) }
 {
     let mut values = no_values(alloc)?;
-    let mut left = count;
-    for x in instances {
-        if left == 0 {
-            return Ok(values);
-        }
-        left = note_at(&mut values, x, pc, left)?;
+    let mut left = count as usize;
+    let mut rest = instances;
+    while left > 0 {
+        let (block, later) = rest.split_at(rest.len().min(BLOCK));
+        left = left.saturating_sub(note_block(alloc, &mut values, block, pc)?);
+        rest = later;
     }
     Ok(values)
 }

@@ -1,6 +1,7 @@
 //! Why a search finds no certificate, as a text: the way to the instance that is refused, or the two ways that differ.
 #![tactic(auto)]
 
+mod blocks;
 mod counting;
 mod dependence;
 mod differing;
@@ -11,7 +12,9 @@ mod laws;
 mod parts;
 mod ranking;
 mod reading;
+mod said;
 mod seen;
+mod shown;
 mod telling;
 mod trail_lines;
 mod turns;

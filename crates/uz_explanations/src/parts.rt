@@ -1,6 +1,6 @@
 //! The parts of what an instance says.
 
-ghost use Rattle.std.specs.Prelude.{◌≡◌, ◌++◌, ◌∷◌, [], OnOk, decimal, slice_index_or};
+ghost use Rattle.std.specs.Prelude.{◌≡◌, ◌≤◌, ◌+◌, ◌*◌, ◌++◌, ◌∷◌, [], OnOk, decimal, slice_index_or};
 ghost use Rattle.uz_explanations.specs.Parts.{part_name, same_bit as same_bit_of};
 ghost use Rattle.uz_explanations.specs.Parts.{same_ends, same_val as same_val_of};
 
@@ -30,11 +30,19 @@ pub(crate) enum Value {
     Flag(Bit),
 }
 
+/// The two ends of a range of bytes as one number, so that ranges are compared in one test.
+fn both_ends(a: &Span) -> u16
+    ensures is { result ≡ a.now.lo + 256 * a.now.hi }
+    ensures low { a.now.lo ≤ 255 }
+{
+    u16::from(a.lo()) + 256 * u16::from(a.hi())
+}
+
 /// Whether two ranges of bytes are the same.
 pub(crate) fn same_span(a: &Span, b: &Span) -> bool
     ensures { result ≡ same_ends a.now b.now }
 {
-    a.lo() == b.lo() && a.hi() == b.hi()
+    both_ends(a) == both_ends(b)
 }
 
 /// Whether two ranges of 16-bit numbers are the same.
@@ -57,16 +65,11 @@ pub(crate) fn same_val(a: &Val, b: &Val) -> bool
 }
 
 /// Whether the same is known of two flags.
+#[tactic(auto, using(crate::proofs::PartLemmas::bits_same))]
 pub(crate) fn same_bit(a: Bit, b: Bit) -> bool
     ensures { result ≡ same_bit_of a b }
 {
-    match (a, b) {
-        (Bit::Zero, Bit::Zero)
-        | (Bit::One, Bit::One)
-        | (Bit::Free, Bit::Free)
-        | (Bit::Old, Bit::Old) => true,
-        _ => false,
-    }
+    a == b
 }
 
 /// Adds a word and a number.

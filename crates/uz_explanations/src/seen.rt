@@ -2,7 +2,7 @@
 
 ghost use Rattle.std.specs.Prelude.{◌≡◌, ℕ, true, [], IfOk, OnOk, length, map, nat_lt};
 ghost use Rattle.uz_explanations.specs.Putting.{is_among as among, kept, put_once};
-ghost use Rattle.uz_explanations.specs.Seen.{AreNoted, seen_at};
+ghost use Rattle.uz_explanations.specs.Seen.{seen_at};
 
 use crate::parts::{same_bit, same_span, same_val, same_wide};
 use std::alloc::{AllocError, Global};
@@ -115,7 +115,7 @@ fn put<T: Said>(seen: &mut Seen<T>, value: &T) -> Result<(), AllocError>
 }
 
 /// Keeps a value, unless it is there or there are 256.
-fn note<T: Said>(seen: &mut Seen<T>, value: &T) -> Result<(), AllocError>
+pub(crate) fn note<T: Said>(seen: &mut Seen<T>, value: &T) -> Result<(), AllocError>
     ensures { OnOk result (map T.value seen.new.values.items ≡ kept (map T.value seen.old.values.items) (T.value value.now)) }
 {
     if seen.values.len() >= MOST_VALUES {
@@ -125,16 +125,6 @@ fn note<T: Said>(seen: &mut Seen<T>, value: &T) -> Result<(), AllocError>
         return Ok(());
     }
     put(seen, value)
-}
-
-/// Keeps what is said of each of some parts.
-pub(crate) fn note_all<T: Said>(seen: &mut Vec<Seen<T>>, said: &[T]) -> Result<(), AllocError>
-    ensures { OnOk result (AreNoted T.value seen.old.items seen.new.items (map T.value said.now)) }
-{
-    for k in 0..said.len().min(seen.len()) {
-        note(&mut seen[k], &said[k])?;
-    }
-    Ok(())
 }
 
 /// So many parts, of which nothing was said.

@@ -68,7 +68,8 @@ fn add_crowds(
 /// it, and its number among those.
 ///
 /// It takes 4 bytes for each program counter up to the greatest one, and then 2 to 4 bytes for each different value of a part of one of
-/// them at a time, at most some 80,000. Time is linear in the instances, for each of the 20 up to its last one.
+/// them at a time, at most some 80,000, and 8 bytes for each of its instances among 256 at a time. Time is linear in the instances, for
+/// each of the 20 up to its last one.
 pub fn crowd_text(alloc: Global, instances: &[Instance]) -> Result<Vec<u8>, AllocError>
     requires few { length instances.now < 2 ^ 32 }
     ensures { IfOk result (λ text. text.items ≡ crowds_text instances.now) }

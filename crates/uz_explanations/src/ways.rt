@@ -5,10 +5,11 @@ ghost use Rattle.std.specs.Option.{option_copied};
 ghost use Rattle.uz_explanations.specs.Readings.{Reading, IsReading};
 ghost use Rattle.uz_explanations.specs.Known.{known_line};
 ghost use Rattle.uz_explanations.specs.TrailLines.{trail_line};
-ghost use Rattle.uz_explanations.specs.Ways.{last_text, way_text, same_instance, shared, from_last, both_ways};
+ghost use Rattle.uz_explanations.specs.Ways.{last_text, way_text, last_shown, same_instance, shared, from_last, both_ways};
 
 use crate::known::add_known;
 use crate::reading::row_at;
+use crate::shown::add_shown;
 use crate::trail_lines::add_line;
 use crate::turns::add_turned;
 use avr_asm::Labels;
@@ -78,6 +79,29 @@ pub(crate) fn add_way(
     add_last_of(alloc, text, image, labels, last_of(trail))
 }
 
+/// Adds what the last instance shows, where there is one.
+fn add_shown_of(
+    text: &mut Vec<u8>,
+    image: &Image,
+    last: Option<&Instance>,
+) -> Result<(), AllocError>
+    ensures { OnOk result ((read : Reading) → IsReading image.now read
+        → text.new.items ≡ text.old.items ++ last_shown image.now read (option_copied last.entry)) }
+{
+    match last {
+        Some(at) => add_shown(text, image, at, row_at(image, at.pc)),
+        None => Ok(()),
+    }
+}
+
+/// Adds what the last instance of a trail shows.
+fn add_last_shown(text: &mut Vec<u8>, image: &Image, trail: &[Instance]) -> Result<(), AllocError>
+    ensures { OnOk result ((read : Reading) → IsReading image.now read
+        → text.new.items ≡ text.old.items ++ last_shown image.now read (slice_get trail.now (length trail.now - 1))) }
+{
+    add_shown_of(text, image, last_of(trail))
+}
+
 /// How many instances two trails share.
 fn shared(first: &[Instance], second: &[Instance]) -> usize
     ensures { result ≡ shared first.now second.now }
@@ -101,7 +125,7 @@ fn from_last(trail: &[Instance], count: usize) -> &[Instance]
     &trail[count.saturating_sub(1)..]
 }
 
-/// Adds the two ways of trails that differ.
+/// Adds the two ways of trails that differ, and what the last instance of each shows.
 pub(crate) fn add_ways(
     alloc: Global,
     text: &mut Vec<u8>,
@@ -116,6 +140,8 @@ pub(crate) fn add_ways(
     let count = shared(first, second);
     text.extend_from_slice(b"way 1\n")?;
     add_way(alloc, text, image, labels, from_last(first, count))?;
+    add_last_shown(text, image, from_last(first, count))?;
     text.extend_from_slice(b"way 2\n")?;
-    add_way(alloc, text, image, labels, from_last(second, count))
+    add_way(alloc, text, image, labels, from_last(second, count))?;
+    add_last_shown(text, image, from_last(second, count))
 }

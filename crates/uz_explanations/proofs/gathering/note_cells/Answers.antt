@@ -1,22 +1,17 @@
-use Rattle.std.proofs.Common.{refl}
-use Rattle.std.proofs.lemmas.Result.{on_ok_weaker}
-use Rattle.uz_explanations.proofs.SeenLemmas.{alone_next, handler_next, main_next}
+use Rattle.std.proofs.Common.{map}
+use Rattle.uz_schedule.specs.declared.kinds.Kind.TheVariants.{Main, Handler, Alone}
+use Rattle.uz_explanations.specs.declared.parts.Class.TheVariants.{Cell}
+use Rattle.uz_explanations.specs.Seen.{cell_value}
+use Rattle.uz_explanations.proofs.Keeping.{lent}
+use Rattle.uz_explanations.proofs.SeenLemmas.{of_block}
 use Rattle.uz_explanations.proofs.gathering.note_cells.Goals as goal
 
-pub returns-in-Main : goal.returns-in-Main
-returns-in-Main c = on_ok_weaker c.note_all.result
-    (λ noted rest all before. main_next c.args.x.now rest all c.as_slice.result.now c.args.values.now
-    (record { main = c.note_all.new.seen; handler = c.args.values.now.handler; alone = c.args.values.now.alone }) c.in-Main.is
-    c.as_slice.ensures.value noted refl refl before) c.note_all.ensures
-
-pub returns-in-Handler : goal.returns-in-Handler
-returns-in-Handler c = on_ok_weaker c.note_all-in-Handler.result
-    (λ noted rest all before. handler_next c.args.x.now rest all c.as_slice-in-Handler.result.now c.args.values.now
-    (record { main = c.args.values.now.main; handler = c.note_all-in-Handler.new.seen; alone = c.args.values.now.alone }) c.in-Handler.is
-    c.as_slice-in-Handler.ensures.value noted refl refl before) c.note_all-in-Handler.ensures
-
-pub returns-in-Alone : goal.returns-in-Alone
-returns-in-Alone c = on_ok_weaker c.note_all-in-Alone.result
-    (λ noted rest all before. alone_next c.args.x.now rest all c.as_slice-in-Alone.result.now c.args.values.now
-    (record { main = c.args.values.now.main; handler = c.args.values.now.handler; alone = c.note_all-in-Alone.new.seen }) c.in-Alone.is
-    c.as_slice-in-Alone.ensures.value noted refl refl before) c.note_all-in-Alone.ensures
+pub returns : goal.returns
+returns c rest all before = record {
+  main = of_block cell_value (Cell Main) 16 c.args.values.now.main.items c.note_parts.new.seen.items (lent c.args.here.now) rest all
+      c.in_ok-note_parts.ensures before.main;
+  handler = of_block cell_value (Cell Handler) 16 c.args.values.now.handler.items c.note_parts-2.new.seen.items (lent c.args.here.now) rest
+      all c.in_ok-note_parts-2.ensures before.handler;
+  alone = of_block cell_value (Cell Alone) 16 c.args.values.now.alone.items c.note_parts-3.new.seen.items (lent c.args.here.now) rest all
+      c.in_ok-note_parts-3.ensures before.alone;
+}

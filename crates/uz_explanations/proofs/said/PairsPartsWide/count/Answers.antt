@@ -1,0 +1,6 @@
+use Rattle.uz_explanations.specs.declared.parts.Value.TheVariants as what
+use Rattle.uz_explanations.proofs.SeenLemmas.{no_part}
+use Rattle.uz_explanations.proofs.said.PairsPartsWide.count.Goals as goal
+
+pub returns : goal.returns
+returns c = no_part what.Pair c.args.x.now.pairs c.length_of.result c.length_of.ensures
