@@ -1,14 +1,14 @@
 -- What `certify` answers: two files that are written one after the other, and a line.
 use Rattle.std.proofs.Common.{◌≡◌, ◌≢◌, ◌⊎◌, sym, inl, inr, ℕ, List, [], ◌∷◌, ap, subst, ◌∙◌}
-use Rattle.std.specs.Prelude.{Option, Some, IfOk, Result, Ok, Err}
+use Rattle.std.specs.Prelude.{Option, Some, IfOk, IsOk, Result, Ok, Err}
 use Rattle.uz_shelf.specs.Files.{FileMap, HoldsFile, LacksFile}
 use Rattle.uz_files.specs.Formats.{SpellsCertificate}
 use Rattle.uz_check.specs.Acceptance.{Accepts}
 use Rattle.uz_check.specs.Certified.{Certified}
 use Rattle.uz_schedule.specs.WellFormed.{WellFormed}
 use Rattle.uz_search.specs.declared.found.NotFound.{NotFound}
-use Rattle.uz_search.specs.declared.found.NotFound.TheVariants.{Stuck, Split, Full, Hint, NoRest, Memory as NoRoomToSearch}
-use Rattle.uz_paths.specs.Finding.{Cause}
+use Rattle.uz_search.specs.declared.found.NotFound.TheVariants.{Hint, Memory as NoRoomToSearch}
+use Rattle.uz_paths.specs.Finding.{Cause, NoCause}
 use Rattle.uz_files.proofs.WriteLemmas.{comes_after_files, files_cut, files_lack, holds_after, holds_written, with_files}
 use Rattle.uz_shelf.specs.Text.{TakesAll}
 use Rattle.uz_hex.specs.Writing.{hex_text}
@@ -17,9 +17,9 @@ use Rattle.avr_asm.specs.Assembly.{Output, seen_built}
 use Rattle.avr_asm.specs.declared.output.Built.{Built}
 use Rattle.avr_asm.specs.declared.output.Hint.{Hint as SourceHint}
 use Rattle.uz_schedule.specs.declared.kinds.Response.{Response}
+use Rattle.uz_schedule.specs.declared.kinds.RuleVersion.TheVariants.{Two}
 use Rattle.uz_schedule.specs.declared.certificate.Cert.{Cert}
-use Rattle.uz_cert_lines.specs.declared.version.Version.TheVariants.{Second}
-use Rattle.uz_cert_writer.specs.Spelling.{spelling}
+use Rattle.uz_cert.specs.Texts.{own_text}
 use Rattle.uz_certificate_commands.specs.declared.certify_command.Found.{Found}
 use Rattle.uz_certificate_commands.specs.declared.certify_command.Found.TheVariants.{Pair, Refusal}
 use Rattle.uz_files.specs.declared.ending.Ending.{Ending}
@@ -48,16 +48,23 @@ done_with ws = with_files ws Done
 -- What the search's promise allows, of its clauses. It was handed these hints and answered so
 pub allowed_of : (image : Flash) (irq : Response) (handed hints : List SourceHint) (found result : Result Cert NotFound) → handed ≡ hints
     → result ≡ found → IsWorth image irq hints found → ((index : ℕ) → Cause image irq handed (Hint index)
-    → (result ≡ Err (Hint index)) ⊎ (result ≡ Err NoRoomToSearch)) → Allowed image irq hints found
-allowed_of image irq handed hints found result same is worth hint = record {
+    → (result ≡ Err (Hint index)) ⊎ (result ≡ Err NoRoomToSearch))
+    → (NoCause Two image irq handed → IsOk result ⊎ (result ≡ Err NoRoomToSearch)) → Allowed image irq hints found
+allowed_of image irq handed hints found result same is worth hint complete = record {
   worth = worth;
   hint = λ index fault. of_two index (subst (λ r. (r ≡ Err (Hint index)) ⊎ (r ≡ Err NoRoomToSearch)) is
       (hint index (subst (λ h. Cause image irq h (Hint index)) (sym same) fault)));
+  complete = λ free. is_found (subst (λ r. IsOk r ⊎ (r ≡ Err NoRoomToSearch)) is
+      (complete (subst (NoCause Two image irq) (sym same) free)));
 }
   where
     of_two : (index : ℕ) → (found ≡ Err (Hint index)) ⊎ (found ≡ Err NoRoomToSearch) → found ≡ Err (Hint index)
     of_two index (inl told) = told
     of_two index (inr lacks) = absurd (subst (IsWorth image irq hints) lacks worth)
+
+    is_found : IsOk found ⊎ (found ≡ Err NoRoomToSearch) → IsOk found
+    is_found (inl ok) = ok
+    is_found (inr lacks) = absurd (subst (IsWorth image irq hints) lacks worth)
 
 pub found_pair : (image : Flash) (irq : Response) (hints : List SourceHint) (cert : Cert) (found : Found) → Allowed image irq hints
     (Ok cert) → IsPairOf image cert found → IsFound image irq hints found
@@ -71,12 +78,12 @@ found_pair image irq hints cert (Pair hex text line) allowed is = record {
 }
 found_pair image irq hints cert (Refusal line) allowed is = absurd is
 
-same_pair : (name hex image text line : List ℕ) (flash : Flash) (cert : Cert) → image ≡ hex_text flash → text ≡ spelling Second cert
+same_pair : (name hex image text line : List ℕ) (flash : Flash) (cert : Cert) → image ≡ hex_text flash → text ≡ own_text cert
     → line ≡ accepted_line cert → done_with (both_files hex image name text) line ≡ certify_answer hex name flash (Ok cert)
 same_pair name hex image text line flash cert is_hex is_text is_line =
     ap (λ b. done_with (both_files hex b name text) line) is_hex
     ∙ ap (λ t. done_with (both_files hex (hex_text flash) name t) line) is_text
-    ∙ ap (done_with (both_files hex (hex_text flash) name (spelling Second cert))) is_line
+    ∙ ap (done_with (both_files hex (hex_text flash) name (own_text cert))) is_line
 
 pub found_in : (files : Option FileMap) (source : List ℕ) (irq : Response) (built : Built) (r : Result Found Failure) → Says files source
     text_limit IsAssembly (seen_built built) → IfOk r (IsFound built.image irq built.hints.items)
@@ -116,7 +123,7 @@ module _ (files mid after : Option FileMap) (load_fault : Type 0) (source : List
       ))
 
   pub certify_worth : ((image : Flash) (cert : Cert) → WellFormed cert → Accepts image cert → Certified image cert)
-      → ((cert : Cert) → WellFormed cert → SpellsCertificate (spelling Second cert) cert)
+      → ((cert : Cert) → WellFormed cert → SpellsCertificate (own_text cert) cert)
       → hex ≢ name → WritesAll mid (both_files hex image name text) after → FilesCertify files after source irq hex name
   certify_worth sound texts apart (first, wrote, (last, written, end)) = record {
     output = output;
@@ -201,24 +208,6 @@ certify_status files load_fault source irq hex name answer (inr (output, says, (
 certify_status files load_fault source irq hex name answer (inr (output, says, (Err why, allowed, is))) =
     inr (inr (inl (ap (λ a. a.status) is)))
 
-pub refusal_not_memory : (image : Flash) (irq : Response) (hints : List SourceHint) (e : NotFound) → IsWorth image irq hints (Err e)
-    → e ≢ NoRoomToSearch
-refusal_not_memory image irq hints (Stuck trail why) worth is = absurd (cc is)
-refusal_not_memory image irq hints (Split first second) worth is = absurd (cc is)
-refusal_not_memory image irq hints (Full count) worth is = absurd (cc is)
-refusal_not_memory image irq hints (Hint index) worth is = absurd (cc is)
-refusal_not_memory image irq hints (NoRest count) worth is = absurd (cc is)
-refusal_not_memory image irq hints NoRoomToSearch worth is = absurd worth
-
-pub refusal_cause : (image : Flash) (irq : Response) (hints : List SourceHint) (e : NotFound) → IsWorth image irq hints (Err e)
-    → Cause image irq hints e
-refusal_cause image irq hints (Stuck trail why) worth = worth
-refusal_cause image irq hints (Split first second) worth = worth
-refusal_cause image irq hints (Full count) worth = worth
-refusal_cause image irq hints (Hint index) worth = worth
-refusal_cause image irq hints (NoRest count) worth = worth
-refusal_cause image irq hints NoRoomToSearch worth = absurd worth
-
 -- where all is well each answer is done, unless loading met a fault
 pub certify_always : (readings : Readings) (files : FileMap) (load_fault : Type 0) (source : List ℕ) (irq : Response)
     (hex name : List ℕ) → CertifySucceeds
@@ -232,9 +221,9 @@ certify_always readings files load_fault source irq hex name well loads answer (
 certify_always readings files load_fault source irq hex name well loads answer (inr (output, says, (Err why, allowed, is))) =
     let same : output ≡ well.output = says_same files load_fault source text_limit IsAssembly RefusesSource
     readings.source output well.output says well.spelled in
-    let refusal = subst (λ (o : Output). IsWorth o.image irq o.hints (Err why)) same allowed.worth in
-    absurd (well.free why (refusal_not_memory well.output.image irq well.output.hints why refusal)
-    (refusal_cause well.output.image irq well.output.hints why refusal))
+    let allows = subst (λ (o : Output). Allowed o.image irq o.hints (Err why)) same allowed in
+    let found = allows.complete well.free in
+    absurd (cc found)
 
 -- loading met a fault, or none is needed for the answer
 pub certify_or_fault : (files : Option FileMap) (load_fault : Type 0) (source : List ℕ) (irq : Response) (hex name : List ℕ)

@@ -32,7 +32,6 @@ use Rattle.uz_certificate_commands.specs.HintedSearch.{AllowedOfHinted, AreOdd, 
 use Rattle.uz_certificate_commands.specs.HintedSearch.{IsMisfit, IsSought, IsSoughtBy, IsWithin, ReadsHinted, ReadsHints, SpellsHinted}
 use Rattle.uz_certificate_commands.specs.HintedSearch.{Telling, first_odd_line, source_of}
 use Rattle.uz_certificate_commands.specs.HintedValues.{HintedFails, HintsFail, NoSearch}
-use Rattle.uz_certificate_commands.proofs.CertifyLemmas.{refusal_cause, refusal_not_memory}
 use Rattle.uz_certificate_commands.proofs.HintedBytes.{one_odd, within_none}
 
 -- what a search leads on to
@@ -238,8 +237,8 @@ module _ (tells : Telling) (statuses : TellsStatus tells) (irq : Response) where
       by_case (inl fault) = absurd (loads fault)
       by_case (inr (Ok cert, allowed, is)) = statuses.found well.image well.source cert answer is
       by_case (inr (Err why, allowed, is)) =
-          absurd (well.free why (refusal_not_memory well.image irq well.source.output.hints why allowed.worth)
-          (refusal_cause well.image irq well.source.output.hints why allowed.worth))
+          let found = allowed.complete well.free in
+          absurd (cc found)
 
 -- loading met a fault, or none is needed for the answer
 pub search_or_fault : (tells : Telling) (irq : Response) (files : Option FileMap) (load_fault : Type 0) (hex hints : List ℕ) (answer : Answer)

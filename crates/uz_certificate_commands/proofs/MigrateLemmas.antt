@@ -5,6 +5,7 @@ use Rattle.uz_shelf.specs.Files.{FileMap, LacksFile}
 use Rattle.uz_hex.specs.Reading.{Flash}
 use Rattle.uz_schedule.specs.WellFormed.{WellFormed}
 use Rattle.uz_schedule.specs.declared.certificate.Cert.{Cert}
+use Rattle.uz_schedule.specs.declared.kinds.RuleVersion.TheVariants.{Two}
 use Rattle.uz_check.specs.Acceptance.{Accepts}
 use Rattle.uz_check.specs.OldRules.{AcceptsOld, IsOld}
 use Rattle.uz_cert.specs.Texts.{IsOfVersion}
@@ -39,7 +40,7 @@ TextKept = (image : Flash) (older newer : List ℕ) (cert : Cert) → SpellsOldC
 pub text_kept : TextLaws → TextKept
 text_kept laws image older newer cert is_old is_new =
     let fits = laws.fits older cert is_old in
-    let same = laws.same image cert fits.0 (record { lengths = fits.1.lengths; points = fits.1.points }) in (
+    let same = laws.same image cert fits.0 (record { version = fits.1.rules; lengths = fits.1.lengths; points = fits.1.points }) in (
       λ told. record {
         certificate = cert;
         spelled = is_new;
@@ -66,17 +67,22 @@ migrate_prepared files load_fault older newer (Err failure) given fails =
     ends_by (Fails files load_fault older certificate_limit RefusesOldCertificate) (MigrateAnswers files load_fault older newer) failure
     (λ answer h. inl h) fails
 
-pub migrate_worth : TextKept → (files mid after : Option FileMap) (older newer : List ℕ) (prepared : Result Work Failure)
+-- what is said in a text of version 1 has the rules of version 2
+abbrev OldRules : Type 0
+OldRules = (older : List ℕ) (cert : Cert) → SpellsOldCertificate older cert → cert.head.version ≡ Two
+
+pub migrate_worth : TextKept → OldRules → (files mid after : Option FileMap) (older newer : List ℕ) (prepared : Result Work Failure)
     → IfOk prepared (IsWork files older) → WritesWork mid newer prepared after → FilesMigrated files after older newer
-migrate_worth kept files mid after older newer (Ok work) given written = record {
+migrate_worth kept rules files mid after older newer (Ok work) given written = record {
   certificate = given.certificate;
   spelled = given.spelled;
   text = work.text.items;
   holds = holds_written mid after newer work.text.items written;
   is_text = given.of.reads_back;
+  rules = rules given.spelled.bytes given.certificate given.spelled.reads;
   kept = λ image. kept image given.spelled.bytes work.text.items given.certificate given.spelled.reads given.of.reads_back;
 }
-migrate_worth kept files mid after older newer (Err failure) given never = absurd never
+migrate_worth kept rules files mid after older newer (Err failure) given never = absurd never
 
 -- the statuses of `migrate`, and the cause of Unread
 pub migrate_status : (files : Option FileMap) (load_fault : Type 0) (older newer : List ℕ) (answer : Answer) → MigrateAnswers files load_fault older

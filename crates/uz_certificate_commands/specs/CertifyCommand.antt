@@ -2,7 +2,7 @@
 -- the certificate are written, and a line tells the lines and clocks of the frame. What the search answers is taken as it comes: no
 -- definition
 -- computes it, but it comes only as its promise allows.
-use Rattle.std.specs.Prelude.{◌≡◌, ◌≢◌, ℕ, List, [], ◌∷◌, Option}
+use Rattle.std.specs.Prelude.{◌≡◌, ℕ, List, [], ◌∷◌, Option}
 use Rattle.std.specs.Prelude.{Result, Ok, Err}
 use Rattle.uz_shelf.specs.Files.{FileMap, HoldsFile}
 use Rattle.uz_hex.specs.HexText.{IsHexOf}
@@ -10,14 +10,13 @@ use Rattle.uz_files.specs.Formats.{SpellsCertificate}
 use Rattle.uz_hex.specs.Reading.{Flash}
 use Rattle.avr_asm.specs.Assembly.{Output}
 use Rattle.uz_schedule.specs.declared.kinds.Response.{Response}
+use Rattle.uz_schedule.specs.declared.kinds.RuleVersion.TheVariants.{Two}
 use Rattle.uz_schedule.specs.declared.certificate.Cert.{Cert}
-use Rattle.uz_cert_lines.specs.declared.version.Version.TheVariants.{Second}
-use Rattle.uz_cert_writer.specs.Spelling.{spelling}
+use Rattle.uz_cert.specs.Texts.{own_text}
 use Rattle.uz_check.specs.Acceptance.{Accepts}
 use Rattle.uz_check.specs.Certified.{Certified}
 use Rattle.uz_search.specs.declared.found.NotFound.{NotFound}
-use Rattle.uz_search.specs.declared.found.NotFound.TheVariants.{Memory}
-use Rattle.uz_paths.specs.Finding.{Cause, IsAsked}
+use Rattle.uz_paths.specs.Finding.{NoCause, IsAsked}
 use Rattle.uz_files.specs.declared.status.Status.TheVariants.{Done, Refused}
 use Rattle.uz_files.specs.Answers.{Answer, Write, one_line}
 use Rattle.uz_files.specs.Writing.{hex_file}
@@ -30,7 +29,7 @@ use Rattle.uz_certificate_commands.specs.SearchLines.{not_found_line, Allowed}
 -- Answers
 
 abbrev pub cert_file : List ℕ → Cert → Write
-cert_file name cert = record { name = name; bytes = spelling Second cert }
+cert_file name cert = record { name = name; bytes = own_text cert }
 
 -- both files are written, HEX before CERT, and then one line is printed; or one line tells why no certificate is found
 abbrev pub certify_answer : List ℕ → List ℕ → Flash → Result Cert NotFound → Answer
@@ -84,8 +83,8 @@ pub record FilesCertify (old new : Option FileMap) (source : List ℕ) (irq : Re
   pub accepted : Accepts output.image certificate
   pub certified : Certified output.image certificate
 
--- the source is within its limit, it has an assembly, and the cause of no refusal stands
+-- the source is within its limit, it has an assembly, and the cause of no refusal by the rules of version 2 stands
 pub record CertifySucceeds (files : Option FileMap) (source : List ℕ) (irq : Response) : Type 0 where
   pub output : Output
   pub spelled : Says files source text_limit IsAssembly output
-  pub free : (e : NotFound) → e ≢ Memory → Cause output.image irq output.hints e → ⊥
+  pub free : NoCause Two output.image irq output.hints

@@ -8,8 +8,7 @@ use Rattle.avr_asm.specs.Assembly.{Output}
 use Rattle.avr_asm.specs.declared.output.Hint.{Hint as SourceHint}
 use Rattle.uz_schedule.specs.declared.kinds.Response.{Response}
 use Rattle.uz_schedule.specs.declared.certificate.Cert.{Cert}
-use Rattle.uz_cert_lines.specs.declared.version.Version.TheVariants.{Second}
-use Rattle.uz_cert_writer.specs.Spelling.{spelling}
+use Rattle.uz_cert.specs.Texts.{own_text}
 use Rattle.uz_search.specs.declared.found.NotFound.{NotFound}
 use Rattle.uz_certificate_commands.specs.declared.certify_command.Found.{Found}
 use Rattle.uz_certificate_commands.specs.declared.certify_command.Found.TheVariants.{Pair, Refusal}
@@ -25,7 +24,7 @@ both_files hex image name text = record { name = hex; bytes = image } ∷ record
 
 -- what is to be written and printed of a certificate
 abbrev pub IsPairOf : Flash → Cert → Found → Type 0
-IsPairOf image cert (Pair hex text line) = (hex.items ≡ hex_text image) × IsHexOf hex.items image × (text.items ≡ spelling Second cert)
+IsPairOf image cert (Pair hex text line) = (hex.items ≡ hex_text image) × IsHexOf hex.items image × (text.items ≡ own_text cert)
     × (line.items ≡ accepted_line cert)
 IsPairOf image cert (Refusal line) = ⊥
 
@@ -35,7 +34,7 @@ pub record IsPair (image : Flash) (irq : Response) (hints : List SourceHint) (he
   pub allowed : Allowed image irq hints (Ok cert)
   pub is_hex : hex ≡ hex_text image
   pub reads_back : IsHexOf hex image
-  pub is_text : text ≡ spelling Second cert
+  pub is_text : text ≡ own_text cert
   pub is_line : line ≡ accepted_line cert
 
 pub record IsRefusal (image : Flash) (irq : Response) (hints : List SourceHint) (line : List ℕ) : Type 0 where

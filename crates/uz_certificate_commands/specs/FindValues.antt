@@ -5,8 +5,7 @@ use Rattle.uz_hex.specs.Reading.{Flash}
 use Rattle.avr_asm.specs.declared.output.Hint.{Hint as SourceHint}
 use Rattle.uz_schedule.specs.declared.kinds.Response.{Response}
 use Rattle.uz_schedule.specs.declared.certificate.Cert.{Cert}
-use Rattle.uz_cert_lines.specs.declared.version.Version.TheVariants.{Second}
-use Rattle.uz_cert_writer.specs.Spelling.{spelling}
+use Rattle.uz_cert.specs.Texts.{own_text}
 use Rattle.uz_search.specs.declared.found.NotFound.{NotFound}
 use Rattle.uz_files.specs.declared.ending.Ending.{Ending}
 use Rattle.uz_files.specs.declared.status.Status.TheVariants.{Refused}
@@ -20,7 +19,7 @@ use Rattle.uz_certificate_commands.specs.declared.find_command.Sought.TheVariant
 
 -- what is to be written and printed of a certificate
 pub record IsWorkOfCert (cert : Cert) (work : Work) : Type 0 where
-  pub is_text : work.text.items ≡ spelling Second cert
+  pub is_text : work.text.items ≡ own_text cert
   pub reads_back : SpellsCertificate work.text.items cert
   pub is_line : work.line.items ≡ accepted_line cert
 

@@ -1,6 +1,6 @@
 -- A search by hints beside an image, as `find` and `why` make it: the image is read, and the source of the hints is expanded and assembled.
 -- Each byte that the source puts out has to be in the image with that value; else the first of its lines that places another byte is told,
--- at its origin. Then a certificate of the image is searched by the hints as by `certify`.
+-- at its origin. Then a certificate of the image is searched by the hints as by `certify`, by the rules of either version.
 use Rattle.std.specs.Prelude.{◌≡◌, ◌≢◌, ℕ, ◌==◌, ◌⊎◌, List, codes, Option, Some, None, Result, Ok, Err, if◌then◌else◌}
 use Rattle.std.specs.FinMap.{empty, get}
 use Rattle.uz_shelf.specs.Files.{FileMap, LacksFile}
@@ -12,10 +12,10 @@ use Rattle.avr_asm.specs.Taken.{assembly_over}
 use Rattle.avr_asm.specs.declared.errors.AsmError.{AsmError}
 use Rattle.avr_macro.specs.Expansion.{Expands, FlatText}
 use Rattle.uz_schedule.specs.declared.kinds.Response.{Response}
+use Rattle.uz_schedule.specs.declared.kinds.RuleVersion.TheVariants.{Two}
 use Rattle.uz_schedule.specs.declared.certificate.Cert.{Cert}
 use Rattle.uz_search.specs.declared.found.NotFound.{NotFound}
-use Rattle.uz_search.specs.declared.found.NotFound.TheVariants.{Memory}
-use Rattle.uz_paths.specs.Finding.{Cause}
+use Rattle.uz_paths.specs.Finding.{NoCause}
 use Rattle.uz_files.specs.Answers.{Answer}
 use Rattle.uz_files.specs.Formats.{RefusesHex}
 use Rattle.uz_files.specs.Reading.{Reads, Says, text_limit}
@@ -113,9 +113,9 @@ AllowedOfHinted files hex hints irq found =
 abbrev pub HintedLacks : Option FileMap → List ℕ → List ℕ → Type 0
 HintedLacks files hex hints = LacksFile files hex ⊎ ((image : Flash) × Says files hex text_limit IsHexOf image × MacroLacks files hints)
 
--- both files are read and fit, and the cause of no refusal stands
+-- both files are read and fit, and the cause of no refusal by the rules of version 2 stands
 pub record HintedSucceeds (files : Option FileMap) (hex hints : List ℕ) (irq : Response) : Type 0 where
   pub image : Flash
   pub source : HintSource
   pub spelled : SpellsHinted files hex hints image source
-  pub free : (e : NotFound) → e ≢ Memory → Cause image irq source.output.hints e → ⊥
+  pub free : NoCause Two image irq source.output.hints

@@ -4,10 +4,10 @@ use Rattle.std.specs.Prelude.{◌≡◌, ◌↔◌, ℕ, List, ◌++◌, codes, 
 use Rattle.uz_shelf.specs.Files.{FileMap, HoldsFile}
 use Rattle.uz_hex.specs.Reading.{Flash}
 use Rattle.uz_schedule.specs.declared.certificate.Cert.{Cert}
+use Rattle.uz_schedule.specs.declared.kinds.RuleVersion.TheVariants.{Two}
 use Rattle.uz_check.specs.Acceptance.{Accepts}
 use Rattle.uz_check.specs.OldRules.{AcceptsOld}
-use Rattle.uz_cert_lines.specs.declared.version.Version.TheVariants.{Second}
-use Rattle.uz_cert_writer.specs.Spelling.{spelling}
+use Rattle.uz_cert.specs.Texts.{own_text}
 use Rattle.uz_files.specs.Answers.{Answer, Write}
 use Rattle.uz_files.specs.Writing.{written_then}
 use Rattle.uz_files.specs.Reading.{Reads, Says, certificate_limit}
@@ -16,9 +16,9 @@ use Rattle.uz_files.specs.Formats.{RefusesOldCertificate, SpellsCertificate, Spe
 abbrev pub migrated_line : Cert → List ℕ
 migrated_line cert = codes "migrated points " ++ decimal (length cert.points) ++ codes "\n"
 
--- the text of version 2
+-- the text, of version 2: what a text of version 1 says has the rules of version 2
 abbrev pub new_file : List ℕ → Cert → Write
-new_file name cert = record { name = name; bytes = spelling Second cert }
+new_file name cert = record { name = name; bytes = own_text cert }
 
 -- once the certificate is read
 abbrev pub IsMigrated : List ℕ → Cert → Answer → Type 0
@@ -41,18 +41,19 @@ pub record AcceptsOldText (image : Flash) (text : List ℕ) : Type 0 where
   pub spelled : SpellsOldCertificate text certificate
   pub accepted : AcceptsOld image certificate
 
--- a text of version 2 spells one that today's rules accept
+-- a text of version 2 or 3 spells one that today's rules accept
 pub record AcceptsText (image : Flash) (text : List ℕ) : Type 0 where
   pub certificate : Cert
   pub spelled : SpellsCertificate text certificate
   pub accepted : Accepts image certificate
 
--- What a `migrate` that is done is worth: the new file holds a text of version 2 of the very certificate that the old one
--- spells, and with each image this text is accepted exactly where the old one is by the rules of its version
+-- What a `migrate` that is done is worth: the new file holds a text of the very certificate that the old one spells, of version 2, since
+-- its rules are those of version 2, and with each image this text is accepted exactly where the old one is by the rules of its version
 pub record FilesMigrated (before after : Option FileMap) (older newer : List ℕ) : Type 0 where
   pub certificate : Cert
   pub spelled : Says before older certificate_limit SpellsOldCertificate certificate
   pub text : List ℕ
   pub holds : HoldsFile after newer text
   pub is_text : SpellsCertificate text certificate
+  pub rules : certificate.head.version ≡ Two
   pub kept : (image : Flash) → AcceptsOldText image spelled.bytes ↔ AcceptsText image text

@@ -2,8 +2,7 @@
 use Rattle.std.specs.Prelude.{◌≡◌, ℕ, List, Option}
 use Rattle.uz_shelf.specs.Files.{FileMap}
 use Rattle.uz_schedule.specs.declared.certificate.Cert.{Cert}
-use Rattle.uz_cert_lines.specs.declared.version.Version.TheVariants.{Second}
-use Rattle.uz_cert_writer.specs.Spelling.{spelling}
+use Rattle.uz_cert.specs.Texts.{own_text}
 use Rattle.uz_files.specs.declared.work.Work.{Work}
 use Rattle.uz_files.specs.Reading.{Says, certificate_limit}
 use Rattle.uz_files.specs.Formats.{SpellsCertificate, SpellsOldCertificate}
@@ -11,7 +10,7 @@ use Rattle.uz_certificate_commands.specs.MigrateCommand.{migrated_line}
 
 -- what is to be written and printed of a certificate
 pub record IsWorkOf (cert : Cert) (work : Work) : Type 0 where
-  pub text : work.text.items ≡ spelling Second cert
+  pub text : work.text.items ≡ own_text cert
   pub reads_back : SpellsCertificate work.text.items cert
   pub line : work.line.items ≡ migrated_line cert
 

@@ -1,9 +1,10 @@
 -- The line that says why a search finds no certificate, and what the search's promise allows.
 use Rattle.std.specs.Prelude.{◌≡◌, ℕ, ◌-◌, List, [], ◌++◌, length, codes, decimal, slice_get, Option, option_map, unwrap_or}
-use Rattle.std.specs.Prelude.{Result, Ok, Err}
+use Rattle.std.specs.Prelude.{Result, Ok, Err, IsOk}
 use Rattle.uz_hex.specs.Reading.{Flash}
 use Rattle.avr_asm.specs.declared.output.Hint.{Hint as SourceHint}
 use Rattle.uz_schedule.specs.declared.kinds.Response.{Response}
+use Rattle.uz_schedule.specs.declared.kinds.RuleVersion.TheVariants.{Two}
 use Rattle.uz_schedule.specs.declared.certificate.Cert.{Cert}
 use Rattle.uz_schedule.specs.declared.states.Instance.{Instance}
 use Rattle.uz_schedule.specs.WellFormed.{WellFormed}
@@ -11,7 +12,7 @@ use Rattle.uz_check.specs.Acceptance.{Accepts}
 use Rattle.uz_transfer.specs.declared.fail.Fail.{Fail}
 use Rattle.uz_search.specs.declared.found.NotFound.{NotFound}
 use Rattle.uz_search.specs.declared.found.NotFound.TheVariants.{Stuck, Split, Full, Hint, NoRest, Memory}
-use Rattle.uz_paths.specs.Finding.{Cause, IsAsked}
+use Rattle.uz_paths.specs.Finding.{Cause, NoCause, IsAsked}
 use Rattle.uz_files.specs.Lines.{number_line}
 use Rattle.uz_certificate_commands.specs.VerdictLines.{fail_name}
 use Rattle.uz_hex.specs.Hexadecimals.{hex_word}
@@ -59,8 +60,9 @@ IsWorth image irq hints (Err e) = Cause image irq hints e
 abbrev pub TellsHint : Flash → Response → List SourceHint → Result Cert NotFound → Type 0
 TellsHint image irq hints found = (index : ℕ) → Cause image irq hints (Hint index) → found ≡ Err (Hint index)
 
--- what the search's promise allows of an image, a response and hints. That a certificate comes where no refusal has a cause follows: each
--- refusal has one
+-- what the search's promise allows of an image, a response and hints. A certificate comes where no refusal has a cause by the rules of
+-- version 2, whose search is always made
 pub record Allowed (image : Flash) (irq : Response) (hints : List SourceHint) (found : Result Cert NotFound) : Type 0 where
   pub worth : IsWorth image irq hints found
   pub hint : TellsHint image irq hints found
+  pub complete : NoCause Two image irq hints → IsOk found

@@ -18,7 +18,7 @@ use uz_cert::{Cert, text_is_unique, write_cert};
 use uz_check::soundness;
 use uz_files::{Ending, Failure, Status, Work, end_with, finish_work, give_up};
 use uz_hex::Image;
-use uz_paths::{NotFound, find};
+use uz_paths::{NotFound, find_by_either};
 use uz_schedule::Response;
 use uz_shelf::{Shelf, Sink};
 
@@ -49,7 +49,7 @@ fn search(alloc: Global, image: &Image, hints: &[Hint], irq: Response) -> Result
     ensures sought { IfOk result (IsSoughtFor image.now irq hints.now) }
     ensures lacks { IfErr result (λ failure. failure ≡ Failure.Memory) }
 {
-    match find(alloc, image, hints, irq) {
+    match find_by_either(alloc, image, hints, irq) {
         Ok(cert) => {
             let work = work_of(alloc, &cert);
             drop(cert);

@@ -13,8 +13,9 @@ ghost use Rattle.uz_certificate_commands.specs.FindLaw.{AreAlike, IsFlatWith};
 use avr_macro::expansion_is_unique;
 use uz_files::readings_are_unique;
 
-/// The law that `find`, given a flat source as HINTS and what `asm` makes of it as HEX, answers and writes what `certify` of
-/// the source does, but for HEX; and the other way round. Does nothing.
+/// The law that `find`, given a flat source as HINTS and what `asm` makes of it as HEX, may answer and write what `certify`
+/// of the source may, but for HEX; and the other way round. By which version's rules a certificate is judged isn't said.
+/// Does nothing.
 pub fn find_is_certify()
     ensures certify { (files : FileMap) (hex source other name : List ℕ) (irq : Response) (output : Output)
         → IsFlatWith (Some files) hex source output

@@ -21,7 +21,7 @@ use std::alloc::{AllocError, Global};
 use uz_check::soundness;
 use uz_explanations::{explain, flash_has_one_reading};
 use uz_files::{Ending, Failure, Status, finish};
-use uz_paths::{NotFound, broken_rule, find};
+use uz_paths::{NotFound, broken_rule, find_by_either};
 use uz_schedule::Response;
 use uz_shelf::{Shelf, Sink};
 
@@ -104,7 +104,7 @@ fn search(alloc: Global, read: &Hinted, irq: Response) -> Result<Ending, Failure
     ensures sought { IfOk result (λ e. IsSought (WhyTells irq) irq read.now.image (hints_seen read.now.hints) (answer_of e)) }
     ensures lacks { IfErr result (λ failure. failure ≡ Failure.Memory) }
 {
-    match find(alloc, &read.image, read.hints.built.hints.as_slice(), irq) {
+    match find_by_either(alloc, &read.image, read.hints.built.hints.as_slice(), irq) {
         Ok(cert) => {
             let line = accepted_line(alloc, &cert);
             drop(cert);

@@ -104,4 +104,4 @@ returns-in-Ok-write_both-clause-certified g c = λ done apart.
     certify_worth (g.H.Shelf.files c.args.shelf.now) (g.H.Shelf.files c.prepare.new.shelf) (g.H.Shelf.files c.write_both.new.shelf) ⊥
     c.args.source.now c.args.irq c.args.hex.now c.args.cert.now c.in-Pair.hex_bytes.items c.in-Pair.cert_bytes.items
     c.in-Pair.line.items c.end_with-in-Ok-write_both.result c.prepare.ensures.files given.output given.spelled pair
-    c.soundness.ensures.certified c.text_is_unique.ensures.is_text_2 apart written
+    c.soundness.ensures.certified c.text_is_unique.ensures.is_text_own apart written

@@ -11,7 +11,8 @@ returns-in_ok-pair-in-Ok-clause-found c =
     let asked = subst (λ h. IsAsked c.args.built.now.image c.args.irq h c.in-Ok.cert) c.as_slice.ensures.value c.in-Ok.ensures.asked in
     found_pair c.args.built.now.image c.args.irq hints c.in-Ok.cert c.in_ok-pair-in-Ok.field-0
     (allowed_of c.args.built.now.image c.args.irq c.as_slice.result.now hints (Ok c.in-Ok.cert) c.find.result c.as_slice.ensures.value
-    c.in-Ok.is (c.in-Ok.ensures.accepted.0, c.in-Ok.ensures.accepted.1, asked) c.find.ensures.hint) c.in_ok-pair-in-Ok.ensures
+    c.in-Ok.is (c.in-Ok.ensures.accepted.0, c.in-Ok.ensures.accepted.1, asked) c.find.ensures.hint c.find.ensures.complete)
+    c.in_ok-pair-in-Ok.ensures
 
 refusal_worth : (c : In_ok-line-in-Err) → IsWorth c.args.built.now.image c.args.irq c.args.built.now.hints.items (Err c.in-Err.why)
 refusal_worth c = search rules
@@ -21,7 +22,8 @@ returns-in_ok-line-in-Err c = record {
   found = record {
     why = c.in-Err.why;
     allowed = allowed_of c.args.built.now.image c.args.irq c.as_slice.result.now c.args.built.now.hints.items (Err c.in-Err.why)
-        c.find.result c.as_slice.ensures.value c.in-Err.is (refusal_worth c) c.find.ensures.hint;
+        c.find.result c.as_slice.ensures.value c.in-Err.is (refusal_worth c) c.find.ensures.hint
+        c.find.ensures.complete;
     is_line = c.in_ok-line-in-Err.ensures;
   };
   lacks = tt;

@@ -17,7 +17,8 @@ returns-in-Ok c =
     IfOk-weaker c.reset_demo.result (IsPrepared image c.in-Ok.cert) (IsSearched image hints)
     (λ start. ready_found image hints c.in-Ok.cert start
     (allowed_of image Four c.as_slice.result.now hints (Ok c.in-Ok.cert) c.find.result c.as_slice.ensures.value c.in-Ok.is
-    (c.in-Ok.ensures.accepted.0, c.in-Ok.ensures.accepted.1, asked) c.find.ensures.hint)) c.reset_demo.ensures
+    (c.in-Ok.ensures.accepted.0, c.in-Ok.ensures.accepted.1, asked) c.find.ensures.hint c.find.ensures.complete))
+    c.reset_demo.ensures
 
 refusal_worth : (c : In_ok-line-in-Err) → IsWorth c.args.built.image Four c.args.built.hints.items (Err c.in-Err.why)
 refusal_worth c = search rules
@@ -26,6 +27,6 @@ pub returns-in_ok-line-in-Err : goal.returns-in_ok-line-in-Err
 returns-in_ok-line-in-Err c = record {
   why = c.in-Err.why;
   allowed = allowed_of c.args.built.image Four c.as_slice.result.now c.args.built.hints.items (Err c.in-Err.why) c.find.result
-      c.as_slice.ensures.value c.in-Err.is (refusal_worth c) c.find.ensures.hint;
+      c.as_slice.ensures.value c.in-Err.is (refusal_worth c) c.find.ensures.hint c.find.ensures.complete;
   is_line = c.in_ok-line-in-Err.ensures;
 }

@@ -16,5 +16,5 @@ returns-clause-outcome g c =
 
 pub returns-clause-migrated : goal.returns-clause-migrated
 returns-clause-migrated g c = λ done.
-    migrate_worth c.migration_keeps_acceptance.ensures.kept (g.H.Shelf.files c.args.shelf.now) _ _ c.args.older.now c.args.newer.now c.prepare-work.result
+    migrate_worth c.migration_keeps_acceptance.ensures.kept c.migration_keeps_acceptance.ensures.rules (g.H.Shelf.files c.args.shelf.now) _ _ c.args.older.now c.args.newer.now c.prepare-work.result
     c.prepare-work.ensures.work (c.finish_work.ensures.written done)
