@@ -97,7 +97,7 @@ pub(crate) fn try_pairs(random: &mut Random, count: Count) -> Count {
     count
 }
 
-/// A byte that a constant was taken from, by each flag. By C it is the least range.
+/// A byte that a constant was taken from, by each flag. By C, Z and N it is the least range.
 pub(crate) fn try_results(random: &mut Random, count: Count) -> Count {
     let old = span(random);
     let k = random.byte();
@@ -105,9 +105,9 @@ pub(crate) fn try_results(random: &mut Random, count: Count) -> Count {
     let mut count = count;
     for flag in 0..7u8 {
         let clear = one(narrow_result(flag, false, old, k, now));
-        count = count.with_one(clear, results(flag, false, old, k, now), flag == 0);
+        count = count.with_one(clear, results(flag, false, old, k, now), flag < 3);
         let set = one(narrow_result(flag, true, old, k, now));
-        count = count.with_one(set, results(flag, true, old, k, now), flag == 0);
+        count = count.with_one(set, results(flag, true, old, k, now), flag < 3);
     }
     count
 }
@@ -124,9 +124,9 @@ pub(crate) fn try_pair_results(random: &mut Random, count: Count) -> Count {
     let mut count = count;
     for flag in 0..7u8 {
         let clear = narrow_pair_result(flag, false, old, k, now);
-        count = count.with_one(clear, pair_results(flag, false, old, k, now), flag == 0);
+        count = count.with_one(clear, pair_results(flag, false, old, k, now), flag < 3);
         let set = narrow_pair_result(flag, true, old, k, now);
-        count = count.with_one(set, pair_results(flag, true, old, k, now), flag == 0);
+        count = count.with_one(set, pair_results(flag, true, old, k, now), flag < 3);
     }
     count
 }

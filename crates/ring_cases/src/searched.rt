@@ -14,7 +14,8 @@ use std::collections::BTreeMap;
 use table_rows::Row;
 use uz_hex::Image;
 use uz_schedule::{
-    EventKind, Head, Instance, Kind, LineEvents, Response, SCANLINE, Schedule, Sequence, Span, Val,
+    EventKind, Head, Instance, Kind, LineEvents, Response, RuleVersion, SCANLINE, Schedule,
+    Sequence, Span, Val,
 };
 use uz_search::{Found, NotFound, Program, search};
 use uz_transfer::Fail;
@@ -95,6 +96,7 @@ fn program(alloc: Global, fall: u16) -> Result<Program, AllocError>
             main: 0,
             handler: 0,
             cells: ArrayVec::new(),
+            version: RuleVersion::Two,
         },
         schedule: frame(alloc, fall)?,
         facts: BTreeMap::new(alloc),

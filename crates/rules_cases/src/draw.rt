@@ -7,8 +7,8 @@ use random_numbers::{ROWS, Random, place};
 use std::alloc::{AllocError, Global};
 use uz_range::hull;
 use uz_schedule::{
-    Bit, Cell, HALF_LINE, Head, Instance, Kind, Owner, Response, SCANLINE, Schedule, Sequence,
-    Span, Val, Wide, tracks,
+    Bit, Cell, HALF_LINE, Head, Instance, Kind, Owner, Response, RuleVersion, SCANLINE, Schedule,
+    Sequence, Span, Val, Wide, tracks,
 };
 
 /// How many rows of the instruction table are drawn: all but BREAK and WDR, which the expected sums don't have.
@@ -55,8 +55,8 @@ fn cell(at: u16, owner: Owner, lo: u8, hi: u8) -> Cell {
     }
 }
 
-/// The header of all instances.
-pub(crate) fn header() -> Head
+/// The header of all instances by the rules of a version.
+pub(crate) fn header(version: RuleVersion) -> Head
     ensures main { result.main ≡ 4 }
     ensures handler { result.handler ≡ 6 }
 {
@@ -76,6 +76,7 @@ pub(crate) fn header() -> Head
         main: 4,
         handler: 6,
         cells,
+        version,
     }
 }
 
@@ -303,6 +304,7 @@ pub(crate) fn instance(random: &mut Random, head: &Head, kind: Kind) -> Instance
         regs,
         pairs: [x, y, z],
         flags,
+        compared: blank.compared,
         stack,
         cells,
         top: if is_handler { top } else { blank.top },

@@ -7,9 +7,12 @@
 ghost use Rattle.std.specs.Prelude.{◌≡◌};
 
 mod draw;
+mod facts;
 mod report;
+mod steps;
 mod sum;
 mod table;
+mod three;
 
 use anyhow::Result;
 use random_numbers::Random;
@@ -17,7 +20,7 @@ use sum::Sum;
 use table::{Table, is_on_line, set_word};
 use uz_hex::Image;
 use uz_rules::{Next, after};
-use uz_schedule::{Head, Instance, Kind, Schedule};
+use uz_schedule::{Head, Instance, Kind, RuleVersion, Schedule};
 use uz_transfer::Fail;
 
 /// How many instances are drawn.
@@ -73,7 +76,7 @@ fn add_one(flash: &mut Image, head: &Head, frame: &Schedule, random: &mut Random
 /// Draws and sums up.
 fn sum_up(rt: &HostRuntime) -> Result<()> {
     let mut flash = Image::empty(rt.alloc())?;
-    let head = draw::header();
+    let head = draw::header(RuleVersion::Two);
     let frame = draw::frame(rt.alloc())?;
     let mut random = Random::new(1);
     let mut sum = Sum { total: 0 };

@@ -116,7 +116,7 @@ pub(crate) fn tell_first_state(rt: &HostRuntime, at: &Instance) -> Result<()> {
 }
 
 /// Tells registers that are known otherwise than before.
-fn tell_registers(rt: &HostRuntime, old: &[Val; 32], new: &[Val; 32]) -> Result<()> {
+pub(crate) fn tell_registers(rt: &HostRuntime, old: &[Val; 32], new: &[Val; 32]) -> Result<()> {
     for r in 0..32usize {
         if old[r] != new[r] {
             print!(rt; " r{}=", r)?;
@@ -127,7 +127,7 @@ fn tell_registers(rt: &HostRuntime, old: &[Val; 32], new: &[Val; 32]) -> Result<
 }
 
 /// Tells pairs that are known otherwise than before.
-fn tell_pairs(rt: &HostRuntime, old: &[Wide; 3], new: &[Wide; 3]) -> Result<()> {
+pub(crate) fn tell_pairs(rt: &HostRuntime, old: &[Wide; 3], new: &[Wide; 3]) -> Result<()> {
     for (k, name) in [(0usize, "x"), (1, "y"), (2, "z")] {
         if old[k % 3] != new[k % 3] {
             print!(rt; " {}=", name)?;

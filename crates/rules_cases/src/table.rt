@@ -8,6 +8,10 @@
 //! - `ask N`: what `uz_rules::local` and `uz_rules::after` answer of point N at the first line and the first count of its box.
 //! - `rest N C`: the handler's first state after rest N, where its interrupt is taken at clock C of the next line: pc, line, clock,
 //!   level, pending, OCR1A and TEMP.
+//! - `rules V`: the certificate is judged by version V of the rules, 2 or 3.
+//! - `split N R`: point N has register R for a cover.
+//! - `flags N WORD`: at point N the flags tell this (`facts`).
+//! - `step NAME; VERSION KIND WORD WORD; ITEMS`: what `uz_rules::after` answers of one instruction (`steps`).
 //!
 //! Other rows are printed as they are.
 
@@ -15,14 +19,17 @@ ghost use Rattle.std.specs.Prelude.{◌≡◌, ◌<◌, ◌≤◌, length, true}
 ghost use Rattle.uz_schedule.specs.Limits.{most_lines};
 ghost use Rattle.uz_schedule.specs.Schedule.{scanline, length_of};
 
+use crate::facts::compared_of;
 use crate::report::{tell_answer, tell_first_state, tell_reason};
+use crate::steps::{tell_step, version_of};
+use crate::three::{Given, judged_by, with_given};
 use anyhow::Result;
 use std::alloc::Global;
 use uz_cert::read_cert;
 use uz_hex::Image;
 use uz_rules::{after, local};
 use uz_schedule::{
-    Cert, Head, Instance, MOST_LINES, SCANLINE, Schedule, schedule_fits, well_formed,
+    Cert, Head, Instance, MOST_LINES, RuleVersion, SCANLINE, Schedule, schedule_fits, well_formed,
 };
 
 /// What the table has said so far.
@@ -44,6 +51,18 @@ pub(crate) fn set_word(flash: &mut Image, at: u16, word: u16) {
 fn two_numbers(text: &str) -> Option<(u16, u16)> {
     let (a, b) = text.split_once(" ")?;
     Some((a.parse().ok()?, b.parse().ok()?))
+}
+
+/// The number of a point and what a row gives it.
+fn given_of(row: &str) -> Option<(usize, Given)> {
+    let (name, rest) = row.split_once(" ")?;
+    let (id, word) = rest.split_once(" ")?;
+    let id = id.parse().ok()?;
+    match name {
+        "split" => Some((id, Given::Split(word.parse().ok()?))),
+        "flags" => Some((id, Given::Told(compared_of(word)?))),
+        _ => None,
+    }
 }
 
 /// Whether an instance stands at a clock of a line of a frame, of which there are at most 525, none longer than a scanline.
@@ -142,6 +161,37 @@ impl Table {
         Ok(())
     }
 
+    /// Has the certificate judged by the rules of a version.
+    fn judge_by(&mut self, version: RuleVersion) {
+        if let Some(cert) = self.cert.take() {
+            self.cert = Some(judged_by(cert, version));
+        }
+    }
+
+    /// Gives a point of the certificate something.
+    fn give(&mut self, id: usize, given: Given) {
+        if let Some(cert) = self.cert.take() {
+            self.cert = Some(with_given(cert, id, given));
+        }
+    }
+
+    /// Does a row that changes the certificate, and answers whether it is one.
+    fn change(&mut self, row: &str) -> bool {
+        if let Some(word) = row.strip_prefix("rules ")
+            && let Some(version) = version_of(word)
+        {
+            self.judge_by(version);
+            return true;
+        }
+        match given_of(row) {
+            Some((id, given)) => {
+                self.give(id, given);
+                true
+            }
+            None => false,
+        }
+    }
+
     /// Does a row of two words or more.
     fn act(&mut self, rt: &HostRuntime, row: &str) -> Result<()> {
         if let Some(rest) = row.strip_prefix("word ") {
@@ -160,7 +210,12 @@ impl Table {
                 return tell_rest(rt, cert, n, c);
             }
         }
-        println!(rt; "{}", row)?;
+        if let Some(rest) = row.strip_prefix("step ") {
+            return tell_step(rt, &mut self.flash, rest);
+        }
+        if !self.change(row) {
+            println!(rt; "{}", row)?;
+        }
         Ok(())
     }
 

@@ -3,6 +3,7 @@
 ghost use Rattle.std.specs.Prelude.{◌≡◌, ◌<◌, ◌≤◌};
 
 use crate::case::{Case, Core};
+use crate::comparing::is_so;
 use crate::draw::{LINES, length_of};
 use crate::program::STACK;
 use arrayvec::ArrayVec;
@@ -21,6 +22,8 @@ pub(crate) enum Fault {
     Level,
     /// Bit 7 of SREG, which is set in main alone, and after RETI.
     Enabled,
+    /// What the flags are known to tell of the last comparison or result.
+    Told,
     /// The depth of the stack.
     Depth,
     /// A byte under the slots, a cell that the kind doesn't track, or a cell beyond its header's range.
@@ -133,7 +136,8 @@ fn is_matched(console: &Console) -> bool {
     console.byte(TIFR1) >> 1 & 1 == 1
 }
 
-/// The instance that says all of a console, so many clocks after the case's, in the words of what is known.
+/// The instance that says all of a console, so many clocks after the case's, in the words of what is known. Of the last comparison it
+/// says what is known.
 fn instance_of(
     console: &Console,
     head: &Head,
@@ -159,6 +163,7 @@ fn instance_of(
             pair_of(console, 30),
         ],
         flags: flags_of(console.byte(SREG), &known.flags, case.before.flags),
+        compared: known.compared,
         stack: slots_of(console, case, known.stack.as_slice()),
         cells: cells_of(console, head, kind),
         top: if is_handler {
@@ -203,6 +208,18 @@ fn is_at_clock(console: &Console, clock: u16) -> bool {
     console.byte(TCNT1L) == (clock % 256) as u8
 }
 
+/// The registers and the flags of a console.
+fn core_of(console: &Console) -> Core {
+    let mut regs = [0; 32];
+    for r in 0..32u8 {
+        regs[r as usize] = console.reg(r);
+    }
+    Core {
+        regs,
+        flags: console.byte(SREG) & 127,
+    }
+}
+
 /// Whether SP is under the slots that are known.
 fn is_deep(console: &Console, case: &Case, known: &Instance) -> bool {
     let mut bottom = stack_pointer(console).wrapping_add(depth_below(case));
@@ -233,6 +250,8 @@ pub(crate) fn fault_of(
         Some(Fault::Level)
     } else if enabled != (returned || kind == Kind::Main) {
         Some(Fault::Enabled)
+    } else if !is_so(&core_of(console), &known.compared) {
+        Some(Fault::Told)
     } else if !returned && !is_deep(console, case, known) {
         Some(Fault::Depth)
     } else if !keeps_below(console, case) || !keeps_cells(console, head, case) {

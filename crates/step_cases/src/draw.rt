@@ -10,8 +10,8 @@ use random_numbers::{Random, place};
 use std::alloc::{AllocError, Global};
 use uz_range::hull;
 use uz_schedule::{
-    Bit, Cell, HALF_LINE, Head, Instance, Kind, Owner, Response, SCANLINE, Schedule, Sequence,
-    Span, Val, Wide, tracks,
+    Bit, Cell, Compared, HALF_LINE, Head, Instance, Kind, Owner, Response, RuleVersion, SCANLINE,
+    Schedule, Sequence, Span, Val, Wide, tracks,
 };
 
 /// The tracked cells: address, owner, and the ends of the range.
@@ -42,8 +42,8 @@ const STORED: [u8; 4] = [16, 17, 18, 19];
 /// The least count of TCNT1 that a state of main has, so that its timer doesn't go round while it is prepared.
 const LEAST_COUNT: u16 = 40;
 
-/// The header of all instances.
-pub(crate) fn header() -> Head
+/// The header of all instances by the rules of a version.
+pub(crate) fn header(version: RuleVersion) -> Head
     ensures main { result.main ≡ 4 }
     ensures handler { result.handler ≡ 6 }
 {
@@ -62,11 +62,12 @@ pub(crate) fn header() -> Head
         main: 4,
         handler: 6,
         cells,
+        version,
     }
 }
 
 /// The range between two bytes.
-fn range(a: u8, b: u8) -> Span {
+pub(crate) fn range(a: u8, b: u8) -> Span {
     if a <= b {
         Span::between(a, b)
     } else {
@@ -75,7 +76,7 @@ fn range(a: u8, b: u8) -> Span {
 }
 
 /// The range between two numbers.
-fn wide_range(a: u16, b: u16) -> Wide {
+pub(crate) fn wide_range(a: u16, b: u16) -> Wide {
     if a <= b {
         Wide::between(a, b)
     } else {
@@ -98,14 +99,14 @@ fn number_between(random: &mut Random, a: u16, b: u16) -> u16 {
 }
 
 /// A byte.
-fn byte(random: &mut Random) -> u8 {
+pub(crate) fn byte(random: &mut Random) -> u8 {
     let any = random.byte();
     let edge = EDGES[random.below(8) as usize];
     if random.below(3) == 0 { edge } else { any }
 }
 
 /// A range, within these ends, around a byte of theirs.
-fn range_around(random: &mut Random, byte: u8, lo: u8, hi: u8) -> Span {
+pub(crate) fn range_around(random: &mut Random, byte: u8, lo: u8, hi: u8) -> Span {
     match random.below(4) {
         0 | 1 => Span::single(byte),
         2 => range(lo, hi),
@@ -137,7 +138,7 @@ fn span_of(value: &Val) -> Span {
 }
 
 /// What is known of a pair of bytes that make this number.
-fn pair(random: &mut Random, number: u16, low: &Val, high: &Val) -> Wide {
+pub(crate) fn pair(random: &mut Random, number: u16, low: &Val, high: &Val) -> Wide {
     let less = random.below(24) as u16;
     let more = random.below(24) as u16;
     match random.below(8) {
@@ -215,7 +216,7 @@ fn point(random: &mut Random, low: usize, regs: &mut [u8; 32], known: &mut [Val;
 }
 
 /// The number that two registers make.
-fn number(regs: &[u8; 32], low: usize) -> u16
+pub(crate) fn number(regs: &[u8; 32], low: usize) -> u16
     requires { low < 31 }
 {
     u16::from(regs[low]) + 256 * u16::from(regs[low + 1])
@@ -372,7 +373,7 @@ fn count(random: &mut Random, kind: Kind, clock: u16) -> u16
 }
 
 /// A kind.
-fn kind(random: &mut Random) -> Kind {
+pub(crate) fn kind(random: &mut Random) -> Kind {
     match random.below(3) {
         0 => Kind::Main,
         1 => Kind::Handler,
@@ -396,13 +397,12 @@ pub(crate) fn frame(alloc: Global) -> Result<Schedule, AllocError> {
     })
 }
 
-/// Draws a state at this pc, and an instance that it meets.
-pub(crate) fn case(random: &mut Random, pc: u16) -> Case
+/// Draws a state of a kind at this pc, and an instance that it meets, which knows nothing of comparisons.
+pub(crate) fn case(random: &mut Random, kind: Kind, pc: u16) -> Case
     ensures line { result.at.line < 3 }
     ensures clock { result.at.clock < scanline }
     ensures count { result.count < scanline }
 {
-    let kind = kind(random);
     let words = words(random);
     let place = draw_place(random, kind);
     let before = interrupted(random);
@@ -444,6 +444,7 @@ pub(crate) fn case(random: &mut Random, pc: u16) -> Case
             regs: known,
             pairs,
             flags: bits,
+            compared: Compared::Nothing,
             stack,
             cells: spans,
             top: place.top,

@@ -38,7 +38,12 @@ pub(crate) enum Trial {
 /// The answer of an instance of a frame; Box where it stands at no clock of a line that is at most as long as a scanline. What main may not
 /// emit is refused by the local rule.
 #[tactic(auto, using(crate::proofs::Depth::depth_few))]
-fn answer(image: &Image, head: &Head, frame: &Schedule, at: &Instance) -> Result<Next, Fail>
+pub(crate) fn answer(
+    image: &Image,
+    head: &Head,
+    frame: &Schedule,
+    at: &Instance,
+) -> Result<Next, Fail>
     requires main { head.now.main ≡ 4 }
     requires handler { head.now.handler ≡ 6 }
 {
