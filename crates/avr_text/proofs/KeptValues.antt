@@ -5,8 +5,8 @@ use Rattle.std.specs.List.{slice_range}
 use Rattle.std.specs.FinMap as map
 use Rattle.avr_text.specs.declared.operators.Binary.{Binary}
 use Rattle.avr_text.specs.declared.operators.Bracket.{Bracket}
-use Rattle.avr_text.specs.declared.waiting.Entry.{Entry}
-use Rattle.avr_text.specs.declared.waiting.Entry.TheVariants.{Waiting, Open}
+use Rattle.avr_text.specs.declared.operator_stack.Entry.{Entry}
+use Rattle.avr_text.specs.declared.operator_stack.Entry.TheVariants.{Waiting, Open}
 use Rattle.avr_text.specs.declared.reader.Operand.{Operand}
 use Rattle.avr_text.specs.declared.reader.Operand.TheVariants.{Value, Sign, Word, Nothing}
 use Rattle.avr_text.specs.declared.reader.Operand.TheVariants as operand

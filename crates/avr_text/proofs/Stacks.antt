@@ -2,7 +2,7 @@
 use Rattle.std.proofs.Common.{◌≡◌, ◌↔◌, ◌<◌, ◌≤◌, Option, Some, None, IsSome, List, [], ◌∷◌, ◌++◌, length, reverse, option_to_list}
 use Rattle.std.proofs.Common.{◌∙◌, ap, arith}
 use Rattle.std.proofs.lemmas.List.{length-append, length-reverse}
-use Rattle.avr_text.specs.declared.waiting.Entry.{Entry}
+use Rattle.avr_text.specs.declared.operator_stack.Entry.{Entry}
 
 -- there is room where one was taken out
 pub room_left : (old new : List Entry) (taken : Option Entry) → length old ≤ 256 → old ≡ new ++ option_to_list taken

@@ -13,8 +13,8 @@ use Rattle.avr_text.specs.declared.operators.Binary.TheVariants.{Or, Xor, And, A
 use Rattle.avr_text.specs.declared.operators.Binary.TheVariants as binary
 use Rattle.avr_text.specs.declared.operators.Bracket.{Bracket}
 use Rattle.avr_text.specs.declared.operators.Bracket.TheVariants.{Plain}
-use Rattle.avr_text.specs.declared.waiting.Entry.{Entry}
-use Rattle.avr_text.specs.declared.waiting.Entry.TheVariants.{Waiting, Open}
+use Rattle.avr_text.specs.declared.operator_stack.Entry.{Entry}
+use Rattle.avr_text.specs.declared.operator_stack.Entry.TheVariants.{Waiting, Open}
 use Rattle.avr_text.specs.declared.reader.Operand.TheVariants.{Value, Sign}
 use Rattle.avr_text.specs.declared.reader.Mode.{Mode}
 use Rattle.avr_text.specs.declared.reader.Mode.TheVariants as mode

@@ -12,6 +12,7 @@ mod mnemonics;
 mod numbers;
 mod operand_laws;
 mod operands;
+mod operator_stack;
 mod operators;
 mod pieces;
 mod pointers;
@@ -19,7 +20,6 @@ mod reader;
 mod symbols;
 mod tokens;
 mod values;
-mod waiting;
 mod words;
 
 pub use characters::{begins_name, is_digit, is_word};

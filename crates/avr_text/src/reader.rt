@@ -10,11 +10,11 @@ ghost use Rattle.avr_text.specs.Reading.{name_operand as name_operand_of, operan
 ghost use Rattle.avr_text.specs.Reading.{closed, operand_step, operator_step, waiting, bracket_step, step as step_of};
 ghost use Rattle.avr_text.specs.Reading.{finished, beginning};
 
+use crate::operator_stack::{Entry, Stack};
 use crate::operators::{Binary, Bracket, bracket_applied, is_sign, operator_of, sign_applied};
 use crate::symbols::Symbols;
 use crate::tokens::{Token, TokenKind};
 use crate::values::{ValueOrWhy, ValueWhy};
-use crate::waiting::{Entry, Stack};
 use crate::words::is_word_named;
 
 /// Parentheses may stand as deep as this.

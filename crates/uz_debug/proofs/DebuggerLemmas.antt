@@ -18,7 +18,7 @@ use Rattle.uz_debug.specs.declared.debugger.Debugger.{Debugger}
 use Rattle.uz_debug.specs.declared.timeline.Timeline.{Timeline}
 use Rattle.uz_debug.specs.declared.run.Halt.{Halt}
 use Rattle.uz_debug.specs.declared.run.Halt.TheVariants as halt
-use Rattle.uz_debug.specs.Kept.{IsTimeline, HasState, turn_of}
+use Rattle.uz_debug.specs.Checkpoints.{IsTimeline, HasState, turn_of}
 use Rattle.uz_debug.specs.Timelines.{IsHalt, Passed, Broken}
 use Rattle.uz_debug.specs.Sessions.{Session, session_at_reset, last_turn, IsAfter, IsStuck, IsArrived, IsEnd, TellsEnd, Acts, ActsInTurn}
 use Rattle.uz_debug.specs.Debuggers.{Debugs, DoesAct, TellsHalt, session_of}

@@ -1,5 +1,5 @@
 pub mod DebuggerLemmas
-pub mod KeptLemmas
+pub mod CheckpointLemmas
 pub mod MarkLemmas
 pub mod RunLemmas
 pub mod ScriptLaws

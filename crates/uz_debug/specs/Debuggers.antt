@@ -12,7 +12,7 @@ use Rattle.uz_debug.specs.declared.command.Reply.{Reply}
 use Rattle.uz_debug.specs.declared.debugger.Debugger.{Debugger}
 use Rattle.uz_debug.specs.declared.run.Halt.{Halt}
 use Rattle.uz_debug.specs.declared.run.Halt.TheVariants as halt
-use Rattle.uz_debug.specs.Kept.{IsTimeline, HasState, turn_of}
+use Rattle.uz_debug.specs.Checkpoints.{IsTimeline, HasState, turn_of}
 use Rattle.uz_debug.specs.Sessions.{Session, IsStuck, Acts, ActsInTurn, TellsPlace, TellsStop, session_at_reset}
 
 abbrev pub session_of : Debugger → Session

@@ -1,5 +1,5 @@
 pub mod Debuggers
-pub mod Kept
+pub mod Checkpoints
 pub mod Marks
 pub mod Scripts
 pub mod SessionText

@@ -2,10 +2,10 @@
 #![tactic(auto)]
 
 mod breakpoints;
+mod checkpoints;
 mod command;
 mod debugger;
 mod errors;
-mod keeping;
 mod laws;
 mod run;
 mod script;

@@ -9,7 +9,7 @@ ghost use Rattle.uz_core.specs.Turn.{State, state_at_reset, history_at_reset};
 ghost use Rattle.uz_pads.specs.Pads.{pairs_of};
 
 use crate::breakpoints::Breakpoints;
-use crate::keeping::{add, is_kept, latest};
+use crate::checkpoints::{add, is_kept, latest};
 use crate::run::{Halt, run_console};
 use std::alloc::{AllocError, Global};
 use uz_console::{Console, Response, SaveState};
@@ -19,9 +19,9 @@ use uz_pads::Pad;
 /// So many turns lie between two save states of the lowest rank: as many as take about 0.1 milliseconds.
 const SPACING: u32 = 4096;
 
-/// A save state of a turn.
+/// A checkpoint: the save state of a turn.
 #[derive(Drop)]
-pub(crate) struct Kept {
+pub(crate) struct Checkpoint {
     turn: u32,
     /// How long it stays: only so many of a rank do.
     rank: u32,
@@ -30,8 +30,8 @@ pub(crate) struct Kept {
     ghost timed: { clock_saved save ≤ 5 * turn },
 }
 
-impl Kept {
-    ghost use Rattle.uz_debug.specs.Kept.{turn_in};
+impl Checkpoint {
+    ghost use Rattle.uz_debug.specs.Checkpoints.{turn_in};
 
     pub(crate) fn rank(&self) -> u32 {
         self.rank
@@ -54,15 +54,15 @@ pub(crate) struct Timeline {
     console: Console,
     turn: u32,
     first: SaveState,
-    saves: Vec<Kept>,
+    saves: Vec<Checkpoint>,
     ghost in_limit: { turn ≤ 100000000 },
     ghost timed: { clock_of console ≤ 5 * turn },
     ghost begun: { clock_saved first ≡ 0 },
 }
 
 impl Timeline {
-    ghost use Rattle.uz_debug.specs.Kept.{IsTimeline, HasState, turn_in, turn_of, saves_of, console_of};
-    ghost use Rattle.uz_debug.specs.declared.timeline.Kept.{Kept};
+    ghost use Rattle.uz_debug.specs.Checkpoints.{IsTimeline, HasState, turn_in, turn_of, saves_of, console_of};
+    ghost use Rattle.uz_debug.specs.declared.timeline.Checkpoint.{Checkpoint};
     ghost use Rattle.uz_debug.specs.Timelines.{IsHalt, IsAt, stops_of};
     ghost use Rattle.uz_debug.specs.Sessions.{IsAfter};
 
@@ -114,7 +114,7 @@ impl Timeline {
         ensures turn { turn_of self.new ≡ turn_of self.old }
     {
         if let Ok(save) = self.console.save(alloc) {
-            let kept = Kept {
+            let kept = Checkpoint {
                 turn: self.turn,
                 rank,
                 save,
@@ -196,7 +196,7 @@ impl Timeline {
     /// Goes to a state that is kept, unless this turn is as near to the target.
     fn load(&mut self, at: usize, target: u32)
         requires place { at < length (saves_of self.old) }
-        requires within { (d : Kept) → turn_in (slice_index_or (saves_of self.old) at d) ≤ target }
+        requires within { (d : Checkpoint) → turn_in (slice_index_or (saves_of self.old) at d) ≤ target }
         ensures keeps { (start : State PadHistory) → IsTimeline start self.old → IsTimeline start self.new }
         ensures within { turn_of self.new ≤ target }
     {

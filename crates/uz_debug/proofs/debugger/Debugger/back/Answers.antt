@@ -1,5 +1,5 @@
 use Rattle.std.proofs.Common.{◌≡◌, ◌-◌, ◌≤◌, ◌∙◌, ap, subst, arith, nat_le}
-use Rattle.uz_debug.specs.Kept.{turn_of}
+use Rattle.uz_debug.specs.Checkpoints.{turn_of}
 use Rattle.uz_debug.specs.Sessions.{TellsPlace, at_turn}
 use Rattle.uz_debug.specs.Debuggers.{Keeps, session_of}
 use Rattle.uz_debug.proofs.RunLemmas.{has_state}

@@ -1,7 +1,7 @@
 use Rattle.std.proofs.Common.{subst, sym}
 use Rattle.uz_debug.specs.declared.run.Halt.{Halt}
 use Rattle.uz_debug.specs.declared.command.Reply.TheVariants as reply
-use Rattle.uz_debug.specs.Kept.{turn_of}
+use Rattle.uz_debug.specs.Checkpoints.{turn_of}
 use Rattle.uz_debug.specs.Debuggers.{TellsHalt}
 use Rattle.uz_debug.proofs.DebuggerLemmas.{no_turn_there}
 use Rattle.uz_debug.proofs.debugger.Debugger.end.Goals as goal

@@ -1,6 +1,6 @@
 use Rattle.std.proofs.Common.{◌≡◌, ◌∙◌, ap, refl}
 use Rattle.std.specs.FinMap as map
-use Rattle.uz_debug.specs.Kept.{turn_of}
+use Rattle.uz_debug.specs.Checkpoints.{turn_of}
 use Rattle.uz_debug.proofs.DebuggerLemmas.{slots_kept, save_session, kept_slots}
 use Rattle.uz_debug.proofs.debugger.Debugger.save.Goals as goal
 

@@ -1,6 +1,6 @@
 use Rattle.std.proofs.Common.{◌≡◌, ◌+◌, ◌≤◌, refl, ap, subst, arith, nat_le}
 use Rattle.std.specs.FinSet as set
-use Rattle.uz_debug.specs.Kept.{turn_of}
+use Rattle.uz_debug.specs.Checkpoints.{turn_of}
 use Rattle.uz_debug.specs.Sessions.{last_turn}
 use Rattle.uz_debug.specs.Timelines.{IsHalt}
 use Rattle.uz_debug.specs.Debuggers.{Keeps}

@@ -1,5 +1,5 @@
 use Rattle.std.proofs.Common.{◌≡◌, ◌<◌, subst, sym, arith}
-use Rattle.uz_debug.specs.Kept.{turn_of}
+use Rattle.uz_debug.specs.Checkpoints.{turn_of}
 use Rattle.uz_debug.specs.Timelines.{Passed, stops_of}
 use Rattle.uz_debug.proofs.RunLemmas.{passed_on, broken_on}
 use Rattle.uz_debug.proofs.timeline.Timeline.go_on.Goals as goal

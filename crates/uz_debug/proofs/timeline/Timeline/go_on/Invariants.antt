@@ -1,7 +1,7 @@
 use Rattle.std.proofs.Common.{◌-◌, ◌≤◌}
 use Rattle.uz_core.specs.PadLine.{PadHistory}
 use Rattle.uz_core.specs.Turn.{State}
-use Rattle.uz_debug.specs.Kept.{IsTimeline, turn_of}
+use Rattle.uz_debug.specs.Checkpoints.{IsTimeline, turn_of}
 use Rattle.uz_debug.specs.Timelines.{Passed, stops_of}
 use Rattle.uz_debug.proofs.timeline.Timeline.go_on.Given as goal
 

@@ -1,5 +1,5 @@
-use Rattle.uz_debug.specs.Kept.{turn_of}
-use Rattle.uz_debug.proofs.KeptLemmas.{halts_at_goal}
+use Rattle.uz_debug.specs.Checkpoints.{turn_of}
+use Rattle.uz_debug.proofs.CheckpointLemmas.{halts_at_goal}
 use Rattle.uz_debug.proofs.timeline.Timeline.go_to.Goals as goal
 
 pub returns : goal.returns

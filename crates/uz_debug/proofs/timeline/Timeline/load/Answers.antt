@@ -1,12 +1,12 @@
 use Rattle.std.proofs.Common.{subst, sym}
-use Rattle.uz_debug.specs.Kept.{IsKept}
-use Rattle.uz_debug.proofs.KeptLemmas.{same_console}
+use Rattle.uz_debug.specs.Checkpoints.{IsCheckpointOf}
+use Rattle.uz_debug.proofs.CheckpointLemmas.{same_console}
 use Rattle.uz_debug.proofs.timeline.Timeline.load.Goals as goal
 
 pub returns-then-self-target-clause-keeps : goal.returns-then-self-target-clause-keeps
 returns-then-self-target-clause-keeps c = λ start h.
     let kept = c.index-kept.result.now in
-    let of_turn : IsKept start kept = subst (IsKept start) (sym c.index-kept.ensures) (h.saves c.args.at kept c.requires.place) in
+    let of_turn : IsCheckpointOf start kept = subst (IsCheckpointOf start) (sym c.index-kept.ensures) (h.saves c.args.at kept c.requires.place) in
     record {
       here = (
         of_turn.0,

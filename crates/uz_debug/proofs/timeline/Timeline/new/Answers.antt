@@ -3,7 +3,7 @@ use Rattle.std.proofs.lemmas.List.Elements.{All-nil, All-same}
 use Rattle.uz_schedule.specs.Schedule.{response_clocks}
 use Rattle.uz_core.specs.Turn.{state_at_reset, history_at_reset}
 use Rattle.uz_pads.specs.Pads.{pairs_of}
-use Rattle.uz_debug.specs.Kept.{IsKept}
+use Rattle.uz_debug.specs.Checkpoints.{IsCheckpointOf}
 use Rattle.uz_debug.proofs.timeline.Timeline.new.Goals as goal
 
 pub returns-clause-begins : goal.returns-clause-begins
@@ -12,5 +12,5 @@ returns-clause-begins c =
     record {
       here = (start, ([], (refl, refl)), c.in_ok-console.ensures.stands);
       first = c.in_ok-first.ensures.stands start c.in_ok-console.ensures.stands;
-      saves = All-same (IsKept start) c.new.result.items [] c.new.ensures.items (All-nil (IsKept start));
+      saves = All-same (IsCheckpointOf start) c.new.result.items [] c.new.ensures.items (All-nil (IsCheckpointOf start));
     }

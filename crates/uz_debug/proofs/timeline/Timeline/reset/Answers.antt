@@ -1,5 +1,5 @@
 use Rattle.std.proofs.Common.{[], refl}
-use Rattle.uz_debug.proofs.KeptLemmas.{same_console}
+use Rattle.uz_debug.proofs.CheckpointLemmas.{same_console}
 use Rattle.uz_debug.proofs.timeline.Timeline.reset.Goals as goal
 
 pub returns-clause-keeps : goal.returns-clause-keeps

@@ -1,27 +1,27 @@
-//! Which save states stay.
+//! Which checkpoints stay.
 
 ghost use Rattle.std.specs.Prelude.{◌<◌, ◌≤◌, All, IfSome, length, slice_index_or};
 ghost use Rattle.uz_core.specs.PadLine.{PadHistory};
 ghost use Rattle.uz_core.specs.Turn.{State};
-ghost use Rattle.uz_debug.specs.Kept.{IsKept, turn_in};
-ghost use Rattle.uz_debug.specs.declared.timeline.Kept.{Kept};
+ghost use Rattle.uz_debug.specs.Checkpoints.{IsCheckpointOf, turn_in};
+ghost use Rattle.uz_debug.specs.declared.timeline.Checkpoint.{Checkpoint};
 
-use crate::timeline::Kept;
+use crate::timeline::Checkpoint;
 
 /// So many save states of one rank are kept, the latest ones.
 const KEPT_OF_RANK: usize = 4;
 
 /// Adds a save state, in place of the oldest of its rank where there are enough of them, and where memory is there for it.
-pub(crate) fn add(saves: &mut Vec<Kept>, kept: Kept)
-    ensures { (start : State PadHistory) → All (IsKept start) saves.old.items → IsKept start kept → All (IsKept start) saves.new.items }
+pub(crate) fn add(saves: &mut Vec<Checkpoint>, kept: Checkpoint)
+    ensures { (start : State PadHistory) → All (IsCheckpointOf start) saves.old.items → IsCheckpointOf start kept → All (IsCheckpointOf start) saves.new.items }
 {
     make_room(saves, kept.rank());
     let _ = saves.push(kept); // without memory it isn't kept
 }
 
 /// Drops the oldest of a rank where there are enough of it.
-fn make_room(saves: &mut Vec<Kept>, rank: u32)
-    ensures { (start : State PadHistory) → All (IsKept start) saves.old.items → All (IsKept start) saves.new.items }
+fn make_room(saves: &mut Vec<Checkpoint>, rank: u32)
+    ensures { (start : State PadHistory) → All (IsCheckpointOf start) saves.old.items → All (IsCheckpointOf start) saves.new.items }
 {
     if let Some(at) = oldest(saves.as_slice(), rank) {
         let _ = saves.remove(at); // no longer needed
@@ -29,7 +29,7 @@ fn make_room(saves: &mut Vec<Kept>, rank: u32)
 }
 
 /// The first of a rank where there are enough of it.
-fn oldest(saves: &[Kept], rank: u32) -> Option<usize>
+fn oldest(saves: &[Checkpoint], rank: u32) -> Option<usize>
     ensures { IfSome result (λ at. at < length saves.now) }
 {
     let mut first = None;
@@ -46,13 +46,13 @@ fn oldest(saves: &[Kept], rank: u32) -> Option<usize>
 }
 
 /// Whether a turn's state is kept.
-pub(crate) fn is_kept(saves: &[Kept], turn: u32) -> bool {
+pub(crate) fn is_kept(saves: &[Checkpoint], turn: u32) -> bool {
     saves.iter().any(|kept| kept.turn() == turn)
 }
 
 /// The place of the latest state that isn't behind a turn.
-pub(crate) fn latest(saves: &[Kept], target: u32) -> Option<usize>
-    ensures { IfSome result (λ at. (at < length saves.now) × ((d : Kept) → turn_in (slice_index_or saves.now at d) ≤ target)) }
+pub(crate) fn latest(saves: &[Checkpoint], target: u32) -> Option<usize>
+    ensures { IfSome result (λ at. (at < length saves.now) × ((d : Checkpoint) → turn_in (slice_index_or saves.now at d) ≤ target)) }
 {
     let mut found = None;
     let mut turn = 0;

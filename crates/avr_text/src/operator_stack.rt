@@ -1,4 +1,4 @@
-//! What waits while an expression is read from left to right.
+//! The operator stack: what waits while an expression is read from left to right.
 
 ghost use Rattle.std.specs.Bool.{OnFalse};
 ghost use Rattle.std.specs.Prelude.{◌≡◌, ◌==◌, ◌<◌, List, [], ◌∷◌, length, option_to_list, ◌++◌, IfNone};
@@ -45,7 +45,7 @@ pub struct Stack {
 
 impl Model for Stack {
     ghost use Rattle.std.specs.Prelude.{◌≤◌, List, length, reverse};
-    ghost use Rattle.avr_text.specs.declared.waiting.Entry.{Entry};
+    ghost use Rattle.avr_text.specs.declared.operator_stack.Entry.{Entry};
 
     ghost Value = { List Entry };
 

@@ -1,5 +1,5 @@
 use Rattle.avr_text.proofs.Stacks.{room_left}
-use Rattle.avr_text.proofs.waiting.Stack.pop.Goals as goal
+use Rattle.avr_text.proofs.operator_stack.Stack.pop.Goals as goal
 
 pub returns-clause-room : goal.returns-clause-room
 returns-clause-room c =

@@ -1,10 +1,10 @@
--- A console at a turn, with the save states that are kept.
+-- A console at a turn, with its checkpoints: save states of other turns.
 use Rattle.std.specs.Prelude.{ℕ, List, All}
 use Rattle.uz_core.specs.PadLine.{PadHistory}
 use Rattle.uz_core.specs.Turn.{State}
 use Rattle.uz_console.specs.declared.console.Console.{Console}
 use Rattle.uz_console.specs.SaveStates.{IsSaveOf}
-use Rattle.uz_debug.specs.declared.timeline.Kept.{Kept}
+use Rattle.uz_debug.specs.declared.timeline.Checkpoint.{Checkpoint}
 use Rattle.uz_debug.specs.declared.timeline.Timeline.{Timeline}
 use Rattle.uz_debug.specs.Sessions.{IsAfter}
 use Rattle.uz_debug.specs.Timelines.{IsAt}
@@ -12,10 +12,10 @@ use Rattle.uz_debug.specs.Timelines.{IsAt}
 abbrev pub turn_of : Timeline → ℕ
 turn_of timeline = timeline.turn
 
-abbrev pub turn_in : Kept → ℕ
+abbrev pub turn_in : Checkpoint → ℕ
 turn_in kept = kept.turn
 
-abbrev pub saves_of : Timeline → List Kept
+abbrev pub saves_of : Timeline → List Checkpoint
 saves_of timeline = timeline.saves.items
 
 -- a turn that has a state
@@ -25,12 +25,12 @@ HasState start turn = (s : State PadHistory) × IsAfter start turn s
 abbrev pub console_of : Timeline → Console
 console_of timeline = timeline.console
 
--- what is kept is the state of its turn
-abbrev pub IsKept : State PadHistory → Kept → Type 0
-IsKept start kept = (s : State PadHistory) × IsAfter start kept.turn s × IsSaveOf kept.save s
+-- a checkpoint has the state of its turn
+abbrev pub IsCheckpointOf : State PadHistory → Checkpoint → Type 0
+IsCheckpointOf start kept = (s : State PadHistory) × IsAfter start kept.turn s × IsSaveOf kept.save s
 
 -- the console is at its turn, and so is each state that is kept; the first is the start
 pub record IsTimeline (start : State PadHistory) (timeline : Timeline) : Type 0 where
   pub here : IsAt start timeline.turn timeline.console
   pub first : IsSaveOf timeline.first start
-  pub saves : All (IsKept start) timeline.saves.items
+  pub saves : All (IsCheckpointOf start) timeline.saves.items

@@ -11,7 +11,7 @@ use Rattle.uz_debug.specs.declared.run.Halt.{Halt}
 use Rattle.uz_debug.specs.declared.run.Halt.TheVariants as halt
 use Rattle.uz_debug.specs.Sessions.{IsAfter}
 use Rattle.uz_debug.specs.Timelines.{IsHalt}
-use Rattle.uz_debug.specs.Kept.{HasState}
+use Rattle.uz_debug.specs.Checkpoints.{HasState}
 use Rattle.uz_debug.proofs.RunLemmas.{goes_before, none_heeded}
 
 pub all_removed : {X : Type 0} (P : X → Type 0) (xs : List X) (i : ℕ) → All P xs → All P (remove xs i)
