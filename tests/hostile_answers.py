@@ -246,6 +246,27 @@ def spelled(line, f, word, top):
 
 FLAGS = 'cznvsht'
 
+# how many values the numbers of what the flags tell have
+TOLD = {b'tst': (32,), b'cp': (32, 32), b'cpi': (32, 256), b'cpw': (31, 32, 32), b'cpiw': (31, 256, 32),
+        b'sub': (32, 256, 256, 256), b'subw': (31, 65536, 65536, 65536)}
+
+
+def told_by_flags(line, word):
+    """What the flags tell: a name and its numbers, of which each is read before the one behind it."""
+    name, colon, rest = word.partition(b':')
+    if not colon or name not in TOLD:
+        line.bad('Word')
+    limits, values = TOLD[name], []
+    for at, limit in enumerate(limits):
+        last = at == len(limits) - 1
+        if not last and b',' not in rest:
+            line.bad('Word')
+        part, rest = (rest, b'') if last else rest.split(b',', 1)
+        values += numbers(line, [part], (0,), limit - 1)
+    if len(values) == 4 and values[2] > values[3]:
+        line.bad('Order')
+    return (name.decode(), *values)
+
 
 def items(line, kind, entry, cert):
     handler = kind == 'handler'
@@ -276,7 +297,7 @@ def items(line, kind, entry, cert):
                 line.bad('Unknown')
             if successors and int(word[1:]) <= successors[-1]:
                 line.bad('Order')
-            least = 59
+            least = 63
             successors.append(int(word[1:]))
             continue
         if word[:2] == b's:':
@@ -291,7 +312,13 @@ def items(line, kind, entry, cert):
         if b'=' not in word:
             line.bad('Word')
         key, value = word.split(b'=', 1)
-        if key[:1] == b'r':
+        if cert['version'] == 3 and kind == 'main' and not entry and key in (b'flags', b'split'):
+            if key == b'flags':
+                told_by_flags(line, value)
+            else:
+                numbers(line, [value], (0,), 31)
+            place(61 if key == b'flags' else 62, False)
+        elif key[:1] == b'r':
             if not numeral(key[1:]) or int(key[1:]) > 31:
                 line.bad('Word')
             f = fact(line, value, 255, not entry, old)
@@ -353,12 +380,12 @@ def read_cert(text):
         nonlocal number
         number += 1
         return Line(pieces[number - 1], number, number < len(pieces))
-    if pieces[0] != b'uzcert 2':
+    if pieces[0] not in (b'uzcert 2', b'uzcert 3'):
         raise Bad(1, 'Head')
     if len(pieces) == 1:
         raise Bad(1, 'NoEnd')
     number = 1
-    cert = {'cells': [], 'kinds': [], 'lines': [], 'rests': [], 'list': []}
+    cert = {'version': int(pieces[0][-1:]), 'cells': [], 'kinds': [], 'lines': [], 'rests': [], 'list': []}
     l = line()
     l.fixed(b'size')
     kinds = l.number_in(1, 525)
