@@ -1,7 +1,6 @@
 -- The words that read as an instruction are those that its pattern writes.
 use Rattle.std.proofs.Common.{◌≡◌, ℕ, zero, suc, ◌+◌, ◌-◌, ◌*◌, ◌/◌, ◌%◌, ◌^◌, ◌<◌, Bool, true, false, ◌&&◌, ◌||◌, not, cond, List, [], ◌∷◌}
-use Rattle.std.proofs.Common.{◌++◌, length, nat_eq, nat_le, replicate, refl, sym, ◌∙◌, ap, subst, arith}
-use Rattle.std.specs.Prelude.{Option, Some, None, count_by, is_some}
+use Rattle.std.proofs.Common.{◌++◌, length, nat_eq, nat_le, replicate, refl, sym, ◌∙◌, ap, arith, Option, Some, None, count_by}
 use Rattle.std.specs.Int.{bit_at}
 use Rattle.std.specs.List.{AllByRecursion}
 use Rattle.std.proofs.lemmas.Bool.Decides.{nat_tests}
@@ -12,7 +11,7 @@ use Rattle.std.proofs.lemmas.List.Recursion.{is_count_by}
 use Rattle.std.proofs.Math.Nat.{mod-eq_of_lt, mod-lt}
 use Prim.Native.Char.{Char, code}
 use Rattle.avr_table.specs.declared.Instr.{Instr}
-use Rattle.avr_table.specs.Pattern.{places, digit, meets, stands, spelled}
+use Rattle.avr_table.specs.Pattern.{digit, meets, stands, spelled}
 use Rattle.avr_table.specs.Rows.{row, words_of, ReadsAt, Spells}
 use Rattle.avr_asm.specs.Codes.{field_of, place_bit, count_of, written, number_of, first_word, second_word}
 use Rattle.avr_asm.proofs.RowTests.{wanted, covered, row_tests}
@@ -53,8 +52,7 @@ step-lt false b x k hb hx = hx
 spelt-lt : (c : ℕ) (p : List ℕ) (n : ℕ) → spelt c p n < 2 ^ count_of c p
 unfolding spelt
 spelt-lt c [] n = omega arith
-spelt-lt c (d ∷ ds) n = step-lt (nat_eq d c) (bit_at n (length ds)) (spelt c ds n) (count_of c ds) (bit_at-lt n (length ds))
-    (spelt-lt c ds n)
+spelt-lt c (d ∷ ds) n = step-lt _ _ _ _ (bit_at-lt n (length ds)) (spelt-lt c ds n)
 
 -- a number's lowest 1 + k bits are those of b and x
 pub parts_of : (v b k x : ℕ) → b < 2 → x < 2 ^ k → v % 2 ^ (1 + k) ≡ b * 2 ^ k + x → (bit_at v k ≡ b) × (v % 2 ^ k ≡ x)
@@ -85,23 +83,17 @@ agree : (L : List (Char × ℕ)) (p : List ℕ) (n : ℕ) → stands p n ≡ tru
 unfolding stands written spelt
 agree L [] n s H = omega arith
 agree L (d ∷ ds) n s H =
-    let st = both (meets (digit d) (bit_at n (length ds))) (stands ds n) s in
-    let tail : n % 2 ^ length ds ≡ written L ds = agree L ds n st.1 (λ c none. tail_of (nat_eq d c) (field_of L c) (bit_at n (length ds))
-    (count_of c ds) (spelt c ds n) (bit_at-lt n (length ds)) (spelt-lt c ds n) (H c none)) in
+    let st = both _ _ s in
+    let tail : n % 2 ^ length ds ≡ written L ds = agree L ds n st.1 (λ c none. tail_of _ _ _
+    _ _ (bit_at-lt n (length ds)) (spelt-lt c ds n) (H c none)) in
     let bit : bit_at n (length ds) ≡ place_bit (digit d) (field_of L d) (count_of d ds) =
-    bit_is (digit d) (bit_at n (length ds)) (field_of L d) (count_of d ds) st.0
-    (λ none. head_of (nat_eq d d) (field_of L d) (bit_at n (length ds)) (count_of d ds) (spelt d ds n) (itself d) (bit_at-lt n (length ds))
-    (spelt-lt d ds n) (H d none)) in
+    bit_is _ _ _ _ st.0 (λ none. head_of _ _ _ _ _ (itself _) (bit_at-lt n (length ds)) (spelt-lt d ds n) (H d none)) in
     let one : suc (length ds) ≡ 1 + length ds = omega arith in
     ap (λ k. n % 2 ^ k) one ∙ mod-pow-add n 1 (length ds) ∙ ap (λ b. b * 2 ^ length ds + n % 2 ^ length ds) bit
     ∙ ap (λ x. place_bit (digit d) (field_of L d) (count_of d ds) * 2 ^ length ds + x) tail
 
 eq_turned : (a b : ℕ) → nat_eq a b ≡ nat_eq b a
-eq_turned a b = by_case (nat_eq a b) refl
-  where
-    by_case : (t : Bool) → nat_eq a b ≡ t → nat_eq a b ≡ nat_eq b a
-    by_case true e = let w : a ≡ b = same a b e in ap (λ x. nat_eq x b) w ∙ ap (nat_eq b) (sym w)
-    by_case false e = e ∙ sym (let back : nat_eq b a ≡ false = grind (arith, nat_tests) in back)
+eq_turned a b = grind (arith, nat_tests, nat_eq a b, nat_eq b a, same a b, nat_eq, nat_eq b)
 
 count_is : (c : ℕ) (ds : List ℕ) → count_of c ds ≡ count_by (nat_eq c) ds
 count_is c ds = is_count_by (count_of c) (nat_eq c) refl (λ x xs. ap (λ t. cond t (1 + count_of c xs) (count_of c xs)) (eq_turned x c)) ds
@@ -109,28 +101,17 @@ count_is c ds = is_count_by (count_of c) (nat_eq c) refl (λ x xs. ap (λ t. con
 pub spelled_is : (c : ℕ) (p : List ℕ) (n : ℕ) → spelled c p n ≡ spelt c p n
 unfolding spelled spelt
 spelled_is c [] n = refl
-spelled_is c (d ∷ ds) n =
-    ap (λ x. cond (nat_eq d c) (bit_at n (length ds) * 2 ^ count_by (nat_eq c) ds + x) x) (spelled_is c ds n)
-    ∙ ap (λ k. cond (nat_eq d c) (bit_at n (length ds) * 2 ^ k + spelt c ds n) (spelt c ds n)) (sym (count_is c ds))
+spelled_is c (d ∷ ds) n = cc (spelled_is c ds n, count_is c ds)
 
 -- the letters of a row
 in_list : (P : List ℕ) (n c : ℕ) (L : List (Char × ℕ)) → AllByRecursion (λ x. x.1 ≡ spelled (code x.0) P n) L → wanted L c ≡ true
     → field_of L c ≡ spelled c P n
 in_list P n c [] s w = absurd cc
-in_list P n c (x ∷ xs) s w = chosen (nat_eq c (code x.0)) refl w (in_list P n c xs s.1)
-  where
-    chosen : (t : Bool) → nat_eq c (code x.0) ≡ t → (t || wanted xs c) ≡ true → (wanted xs c ≡ true → field_of xs c ≡ spelled c P n)
-        → cond t x.1 (field_of xs c) ≡ spelled c P n
-    chosen true e v r = s.0 ∙ ap (λ k. spelled k P n) (sym (same c (code x.0) e))
-    chosen false e v r = r v
+in_list P n c (x ∷ xs) s w = grind (arith, nat_tests, nat_eq c (code x.0), in_list P n c xs s.1, wanted xs c, same c (code x.0))
 
 not_in_list : (c : ℕ) (L : List (Char × ℕ)) → wanted L c ≡ false → field_of L c ≡ 0
 not_in_list c [] w = refl
-not_in_list c (x ∷ xs) w = chosen (nat_eq c (code x.0)) (wanted xs c) x.1 (field_of xs c) w (not_in_list c xs)
-  where
-    chosen : (t u : Bool) (v f : ℕ) → (t || u) ≡ false → (u ≡ false → f ≡ 0) → cond t v f ≡ 0
-    chosen true u v f e r = absurd cc
-    chosen false u v f e r = r e
+not_in_list c (x ∷ xs) w = grind (arith, nat_tests, nat_eq c (code x.0), wanted xs c, not_in_list c xs)
 
 -- a character that stands nowhere in the front of a pattern
 absent : (c n : ℕ) (L : List (Char × ℕ)) (p q : List ℕ) → covered L p ≡ true → digit c ≡ None → wanted L c ≡ false → spelt c (p ++ q)
@@ -138,24 +119,7 @@ absent : (c n : ℕ) (L : List (Char × ℕ)) (p q : List ℕ) → covered L p �
 unfolding spelt
 absent c n L [] q e none w = refl
 absent c n L (d ∷ ds) q e none w =
-    let parts = both (is_some (digit d) || wanted L d) (covered L ds) e in
-    chosen (nat_eq d c) (bit_at n (length (ds ++ q)) * 2 ^ count_of c (ds ++ q) + spelt c (ds ++ q) n) (spelt c (ds ++ q) n) (spelt c q n)
-    (not_here parts.0) (absent c n L ds q parts.1 none w)
-  where
-    chosen : (t : Bool) (x y z : ℕ) → t ≡ false → y ≡ z → cond t x y ≡ z
-    chosen true x y z e f = absurd cc
-    chosen false x y z e f = f
-
-    not_here : (is_some (digit d) || wanted L d) ≡ true → nat_eq d c ≡ false
-    not_here t = by_case (nat_eq d c) refl
-      where
-        by_case : (u : Bool) → nat_eq d c ≡ u → u ≡ false
-        by_case false e' = refl
-        by_case true e' =
-            let is : d ≡ c = same d c e' in
-            let known : (is_some (digit c) || wanted L c) ≡ true = subst (λ x. (is_some (digit x) || wanted L x) ≡ true) is t in
-            let nowhere : (is_some (digit c) || wanted L c) ≡ false = ap (λ o. is_some o || wanted L c) none ∙ w in
-            absurd (let no : true ≡ false = sym known ∙ nowhere in cc)
+    grind (arith, nat_tests, both, wanted L d, covered L ds, nat_eq d c, absent c n L ds q, same d c, wanted L c, wanted L)
 
 -- places below which all bits are 0
 zero_low : (c n : ℕ) (ds : List ℕ) → n % 2 ^ length ds ≡ 0 → spelt c ds n ≡ 0
@@ -190,48 +154,28 @@ letters_say L p k n c known says low_zero none = by_case (wanted L c) refl
     by_case true e =
         let is : field_of L c ≡ spelt c (p ++ dashes k) n = in_list (p ++ dashes k) n c L says e ∙ spelled_is c (p ++ dashes k) n in
         ap (λ x. x % 2 ^ count_of c (p ++ dashes k)) is ∙ mod-eq_of_lt (spelt-lt c (p ++ dashes k) n)
-    by_case false e =
-        let low : n % 2 ^ length (dashes k) ≡ 0 = ap (λ m. n % 2 ^ m) (dashes-length k) ∙ low_zero in
-        let none_there : spelt c (p ++ dashes k) n ≡ 0 = absent c n L p (dashes k) known none e ∙ zero_low c n (dashes k) low in
-        ap (λ x. x % 2 ^ count_of c (p ++ dashes k)) (not_in_list c L e) ∙ mod-eq_of_lt (pow_pos (count_of c (p ++ dashes k)))
-        ∙ sym none_there
+    by_case false e = grind (arith, nat_tests, dashes-length, absent, zero_low, not_in_list, mod-eq_of_lt, pow_pos)
 
 whole : (L : List (Char × ℕ)) (p : List ℕ) (k n : ℕ) → covered L p ≡ true → stands (p ++ dashes k) n ≡ true → Spells (p ++ dashes k) n L
     → n % 2 ^ k ≡ 0 → length p + k ≡ 32 → n < 2 ^ 32 → n ≡ written L (p ++ dashes k)
 whole L p k n known st says low_zero long small =
-    let len : length (p ++ dashes k) ≡ 32 = length-append p (dashes k) ∙ ap (λ m. length p + m) (dashes-length k) ∙ long in
-    sym (mod-eq_of_lt small) ∙ ap (λ m. n % 2 ^ m) (sym len) ∙ agree L (p ++ dashes k) n st
-    (λ c none. letters_say L p k n c known says low_zero none)
+    grind (arith, nat_tests, length-append p, dashes-length k, mod-eq_of_lt small, agree L, letters_say L p k n)
 
 abbrev two_if_long : ℕ → ℕ
 two_if_long len = cond (nat_le len 16) 1 2
 
 short_or_long : (len a b : ℕ) → (nat_eq len 16 || nat_eq len 32) ≡ true → (two_if_long len ≡ 1 → b ≡ 0)
     → ((a * 65536 + b) % 2 ^ (32 - len) ≡ 0) × (len + (32 - len) ≡ 32)
-short_or_long len a b e z = by_case (nat_eq len 16) refl
-  where
-    by_case : (t : Bool) → nat_eq len 16 ≡ t → ((a * 65536 + b) % 2 ^ (32 - len) ≡ 0) × (len + (32 - len) ≡ 32)
-    by_case true f =
-        let is : len ≡ 16 = same len 16 f in
-        let none : b ≡ 0 = z (ap two_if_long is) in
-        let low : (a * 65536 + b) % 65536 ≡ 0 = omega arith in
-        (ap (λ m. (a * 65536 + b) % 2 ^ (32 - m)) is ∙ low, omega arith)
-    by_case false f =
-        let other : nat_eq len 32 ≡ true = sym (ap (λ t. t || nat_eq len 32) f) ∙ e in
-        let is : len ≡ 32 = same len 32 other in
-        let low : (a * 65536 + b) % 1 ≡ 0 = omega arith in
-        (ap (λ m. (a * 65536 + b) % 2 ^ (32 - m)) is ∙ low, omega arith)
+short_or_long len a b e z = grind (arith, nat_tests, nat_eq len 16, same len 16, nat_eq len 32, same len 32)
 
 pub code_is : (i : Instr) (a b : ℕ) → a < 65536 → b < 65536 → ReadsAt (a * 65536 + b) i → (words_of i ≡ 1 → b ≡ 0)
     → a * 65536 + b ≡ number_of i
 unfolding number_of dashes
 code_is i a b ha hb reads one =
-    let tests = both (nat_eq (length (places (row i).pattern)) 16 || nat_eq (length (places (row i).pattern)) 32)
-    (covered (row i).letters (places (row i).pattern) && not (wanted (row i).letters 45)) (row_tests i) in
-    let known = both (covered (row i).letters (places (row i).pattern)) (not (wanted (row i).letters 45)) tests.1 in
-    let sizes = short_or_long (length (places (row i).pattern)) a b tests.0 one in
-    whole (row i).letters (places (row i).pattern) (32 - length (places (row i).pattern)) (a * 65536 + b) known.0 reads.fixed reads.letters
-    sizes.0 sizes.1 (omega arith)
+    let tests = both _ _ (row_tests i) in
+    let known = both _ (not (wanted (row i).letters 45)) tests.1 in
+    let sizes = short_or_long _ _ _ tests.0 one in
+    whole (row i).letters _ _ _ known.0 reads.fixed reads.letters sizes.0 sizes.1 (omega arith)
 
 pub first_is : (i : Instr) (a b : ℕ) → a < 65536 → b < 65536 → ReadsAt (a * 65536 + b) i → (words_of i ≡ 1 → b ≡ 0) → a ≡ first_word i
 first_is i a b ha hb reads one = let e = code_is i a b ha hb reads one in let d : a ≡ (a * 65536 + b) / 65536 = omega arith in

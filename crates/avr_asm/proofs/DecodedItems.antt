@@ -1,7 +1,6 @@
 -- The items of an assembled source are read back from its image.
 use Rattle.std.proofs.Common.{◌≡◌, ℕ, ◌+◌, ◌*◌, ◌/◌, ◌%◌, ◌<◌, Bool, true, false, cond, List, [], ◌∷◌, ◌++◌, length, nat_le, All, refl, sym}
-use Rattle.std.proofs.Common.{◌∙◌, ap, subst, arith}
-use Rattle.std.specs.Prelude.{Option, None, Some, Result, Ok, Err, IfOk, unwrap_or, ◌==◌}
+use Rattle.std.proofs.Common.{◌∙◌, ap, subst, arith, Some, Result, Ok, Err, IfOk, unwrap_or, ◌==◌}
 use Rattle.std.specs.FinMap as map
 use Rattle.std.specs.List.{AllByRecursion}
 use Rattle.std.proofs.lemmas.Bool.Decides.{nat_tests}
@@ -27,45 +26,26 @@ byte_at : (image : Flash) (q v : ℕ) → map.get image q ≡ Some v → byte_or
 byte_at image q v e = ap (λ o. unwrap_or o 255) e
 
 byte_small : (image : Flash) (q : ℕ) → IsFlash image → byte_or_255 image q < 256
-byte_small image q flash = by_case (map.get image q) refl
-  where
-    by_case : (o : Option ℕ) → map.get image q ≡ o → unwrap_or o 255 < 256
-    by_case None e = omega arith
-    by_case (Some v) e = (flash q v e).1
+byte_small image q flash = grind (arith, nat_tests)
 
 word_small : (image : Flash) (at : ℕ) → IsFlash image → word_of image at < 65536
 word_small image at flash =
-    let low = byte_small image (2 * (at % 32768)) flash in
-    let high = byte_small image (2 * (at % 32768) + 1) flash in
-    two_bytes (byte_or_255 image (2 * (at % 32768))) (byte_or_255 image (2 * (at % 32768) + 1)) low high
-  where
-    two_bytes : (a b : ℕ) → a < 256 → b < 256 → a + 256 * b < 65536
-    two_bytes a b low high = omega arith
+    grind (arith, nat_tests, byte_small image (2 * (at % 32768)) flash, byte_small image (2 * (at % 32768) + 1) flash)
 
 -- the word of two bytes
 word_here : (image : Flash) (at low high : ℕ) → at < 32768 → map.get image (2 * at) ≡ Some low → map.get image (2 * at + 1) ≡ Some high
     → word_of image at ≡ low + 256 * high
-word_here image at low high small e f =
-    let same : at % 32768 ≡ at = omega arith in
-    ap (λ a. byte_or_255 image (2 * a) + 256 * byte_or_255 image (2 * a + 1)) same
-    ∙ ap (λ x. x + 256 * byte_or_255 image (2 * at + 1)) (byte_at image (2 * at) low e) ∙ ap (λ x. low + 256 * x)
-    (byte_at image (2 * at + 1) high f)
+word_here image at low high small e f = grind (arith, nat_tests, byte_at image (2 * at) low e, byte_at image (2 * at + 1) high f)
 
 halves : (w : ℕ) → w % 256 + 256 * (w / 256) ≡ w
 halves w = omega arith
 
 held_word : (image : Flash) (at w : ℕ) (rest : List ℕ) → Holds image (2 * at) (w % 256 ∷ w / 256 ∷ rest) → (at < 32768)
     × (word_of image at ≡ w)
-held_word image at w rest h =
-    let small : at < 32768 = omega (arith, h.0) in
-    (small, word_here image at (w % 256) (w / 256) small h.1 h.2.1 ∙ halves w)
+held_word image at w rest h = grind (arith, nat_tests, word_here image at (w % 256) (w / 256), halves w)
 
 one_or_two : (i : Instr) (n : ℕ) → words_of i ≡ n → (n == 2) ≡ false → n ≡ 1
-one_or_two i n e other = by_case (nat_le (length (places (row i).pattern)) 16) e
-  where
-    by_case : (t : Bool) → ◌≡◌ {A = ℕ} (cond t 1 2) n → n ≡ 1
-    by_case true e' = sym e'
-    by_case false e' = absurd (let w : (2 == 2) ≡ false = ap (λ x. x == 2) e' ∙ other in cc)
+one_or_two i n e other = grind (arith, nat_tests, nat_le (length (places (row i).pattern)) 16)
 
 item_decoded : (image : Flash) (item : Placed) → IsFlash image → ItemHolds image item → IsDecoded image item × IsInFlash item
 item_decoded image item flash h = by_case (words_of item.instr == 2) refl h
@@ -112,18 +92,14 @@ laid_out text out e = by_case (layout_of (lines_of text)) e
     by_case (Err fault) e' = absurd cc
 
 items_held : (text : List ℕ) (out : Output) → assembly text ≡ Ok out → AllByRecursion (ItemHolds out.image) out.items
-items_held text out e =
-    let l = laid_out text out e in
-    items_hold 1 l.0.symbols nothing out (lines_of text) l.0.addresses l.2 (each_even 1 start (lines_of text) l.0 l.1) tt
+items_held text out e = grind (arith, nat_tests, laid_out text out e, items_hold 1, each_even 1 start (lines_of text))
 
 pub decoded_built : (text : List ℕ) (result : Result Built AsmError) → GivesLayout seen_built result (assembly text)
     → IfOk result (λ b. IsFlash b.image) → IfOk result (λ b. All (IsDecoded b.image) b.items.items)
-decoded_built text (Ok b) e flash = All-from_recursion (IsDecoded b.image) b.items.items
-    (each_decoded b.image b.items.items flash (items_held text (seen_built b) e))
+decoded_built text (Ok b) e flash = All-from_recursion (IsDecoded b.image) b.items.items (each_decoded _ _ flash (items_held text _ e))
 decoded_built text (Err fault) e flash = tt
 
 pub in_flash_built : (text : List ℕ) (result : Result Built AsmError) → GivesLayout seen_built result (assembly text)
     → IfOk result (λ b. IsFlash b.image) → IfOk result (λ b. All IsInFlash b.items.items)
-in_flash_built text (Ok b) e flash = All-from_recursion IsInFlash b.items.items
-    (each_in_flash b.image b.items.items flash (items_held text (seen_built b) e))
+in_flash_built text (Ok b) e flash = All-from_recursion IsInFlash b.items.items (each_in_flash _ _ flash (items_held text _ e))
 in_flash_built text (Err fault) e flash = tt

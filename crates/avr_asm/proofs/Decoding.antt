@@ -1,7 +1,6 @@
 -- The second pass puts each instruction's bytes at its item's address, and keeps them.
-use Rattle.std.proofs.Common.{◌≡◌, ◌≢◌, ℕ, ◌+◌, ◌*◌, ◌/◌, ◌%◌, ◌<◌, Bool, true, false, cond, List, [], ◌∷◌, ◌++◌, refl, sym, ◌∙◌, ap, subst}
-use Rattle.std.proofs.Common.{arith}
-use Rattle.std.specs.Prelude.{Option, None, Some, Result, Ok, Err, is_some, nat_le}
+use Rattle.std.proofs.Common.{◌≡◌, ◌≢◌, ℕ, ◌+◌, ◌*◌, ◌/◌, ◌%◌, ◌<◌, Bool, true, false, List, [], ◌∷◌, ◌++◌, refl, sym, ◌∙◌, ap, subst}
+use Rattle.std.proofs.Common.{arith, Option, None, Some, Result, Ok, Err, is_some}
 use Rattle.std.specs.FinMap as map
 use Rattle.std.specs.FinMap.{gets}
 use Rattle.std.specs.List.{AllByRecursion}
@@ -16,13 +15,12 @@ use Rattle.avr_text.specs.declared.errors.AsmWhy.TheVariants as why
 use Rattle.avr_asm.specs.declared.lines.Action.{Action}
 use Rattle.avr_asm.specs.declared.lines.Action.TheVariants as action
 use Rattle.avr_asm.specs.declared.output.Placed.{Placed}
-use Rattle.avr_asm.specs.Emission.{Flash, put, byte_data, word_data, instruction_bytes}
+use Rattle.avr_asm.specs.Emission.{Flash, put, instruction_bytes}
 use Rattle.avr_text.specs.Faults.{OrFault, ◌>>=◌}
 use Rattle.avr_asm.specs.Hints.{hint_of, mapped}
-use Rattle.avr_text.specs.Instructions.{instruction_of}
-use Rattle.avr_asm.specs.Layout.{arguments_in, is_instruction, is_instruction_in, is_instruction_line}
-use Rattle.avr_asm.specs.Lines.{content_of, body_of, action_of, parts_of}
-use Rattle.avr_asm.specs.Assembly.{Output, with_line, following, at_line, output_from}
+use Rattle.avr_asm.specs.Layout.{is_instruction, is_instruction_in, is_instruction_line}
+use Rattle.avr_asm.specs.Lines.{content_of}
+use Rattle.avr_asm.specs.Assembly.{Output, at_line, output_from}
 use Rattle.avr_asm.specs.Relation.{item_of, hint_list}
 use Rattle.avr_asm.specs.LineOutputs.{LineOutput, no_output, instruction_output, data_output, hint_output, directive_output, action_output}
 use Rattle.avr_asm.specs.LineOutputs.{tokens_output, line_output}
@@ -54,19 +52,8 @@ insert_holds old at b = let e : at ≡ at = refl in grind (arith, gets, nat_test
 
 pub put_holds : (at : ℕ) (bytes : List ℕ) (old new : Flash) → put at bytes old ≡ Ok new → Keeps old new × Holds new at bytes
 put_holds at [] old new e = let same : old ≡ new = ok_same old new e in (λ q v h. subst (λ m. map.get m q ≡ Some v) same h, tt)
-put_holds at (b ∷ bs) old new e = by_case (nat_le 65536 at) (is_some (map.get old at)) refl refl
-    (λ f. put_holds (at + 1) bs (map.insert old at b) new f) e
-  where
-    by_case : (past taken : Bool) → nat_le 65536 at ≡ past → is_some (map.get old at) ≡ taken
-        → (put (at + 1) bs (map.insert old at b) ≡ Ok new → Keeps (map.insert old at b) new × Holds new (at + 1) bs)
-        → cond past (Err why.Past) (cond taken (Err why.Overlap) (put (at + 1) bs (map.insert old at b))) ≡ Ok new → Keeps old new
-        × Holds new at (b ∷ bs)
-    by_case true taken p t more e' = absurd cc
-    by_case false true p t more e' = absurd cc
-    by_case false false p t more e' =
-        let rest = more e' in
-        let below : at < 65536 = grind (arith, nat_tests) in
-        (λ q v h. rest.0 q v (inserted old at b q v t h), (below, rest.0 at b (insert_holds old at b), rest.1))
+put_holds at (b ∷ bs) old new e =
+    grind (arith, nat_tests, put_holds (at + 1) bs (map.insert old at b) new, inserted old at b, insert_holds old at b)
 
 -- what a line puts out with an instruction are the instruction's bytes, and the line is an instruction's
 abbrev pub IsOfInstruction : Bool → LineOutput → Type 0
@@ -74,52 +61,35 @@ IsOfInstruction is o = (i : Instr) → o.instruction ≡ Some i → (o.bytes ≡
 
 no_instruction : {X : Type 0} (is : Bool) (x : OrFault X) (f : X → LineOutput) (o : LineOutput) → ((v : X) → (f v).instruction ≡ None)
     → mapped x f ≡ Ok o → IsOfInstruction is o
-no_instruction is x f o none e i some =
-    let it = made x f o e in
-    let no : Some i ≡ None = sym some ∙ ap (λ (p : LineOutput). p.instruction) (sym it.2) ∙ none it.0 in
-    absurd cc
+no_instruction is x f o none e i some = grind (arith, nat_tests, made x f o e)
 
 directive_has_none : (d : Directive) (is : Bool) (line : List ℕ) (symbols : NameMap) (after : ℕ) (parts : List (List Token))
     (o : LineOutput) → directive_output d line symbols after parts ≡ Ok o → IsOfInstruction is o
-directive_has_none directive.Db is line symbols after parts o e = no_instruction is (byte_data line symbols parts) data_output o (λ v. refl)
-    e
-directive_has_none directive.Dw is line symbols after parts o e = no_instruction is (word_data line symbols parts) data_output o (λ v. refl)
-    e
+directive_has_none directive.Db is line symbols after parts o e = no_instruction _ _ data_output _ (λ v. refl) e
+directive_has_none directive.Dw is line symbols after parts o e = no_instruction _ _ data_output _ (λ v. refl) e
 directive_has_none directive.Org is line symbols after parts o e = no_instruction is (hint_of directive.Org line symbols parts after)
     hint_output o (λ v. refl) e
 directive_has_none directive.Equ is line symbols after parts o e = no_instruction is (hint_of directive.Equ line symbols parts after)
     hint_output o (λ v. refl) e
-directive_has_none directive.Start is line symbols after parts o e = no_instruction is (hint_of directive.Start line symbols parts after)
-    hint_output o (λ v. refl) e
-directive_has_none directive.Lines is line symbols after parts o e = no_instruction is (hint_of directive.Lines line symbols parts after)
-    hint_output o (λ v. refl) e
-directive_has_none directive.Half is line symbols after parts o e = no_instruction is (hint_of directive.Half line symbols parts after)
-    hint_output o (λ v. refl) e
-directive_has_none directive.Stack is line symbols after parts o e = no_instruction is (hint_of directive.Stack line symbols parts after)
-    hint_output o (λ v. refl) e
-directive_has_none directive.Cell is line symbols after parts o e = no_instruction is (hint_of directive.Cell line symbols parts after)
-    hint_output o (λ v. refl) e
-directive_has_none directive.Fact is line symbols after parts o e = no_instruction is (hint_of directive.Fact line symbols parts after)
-    hint_output o (λ v. refl) e
+directive_has_none directive.Start is line symbols after parts o e = no_instruction _ _ hint_output _ (λ v. refl) e
+directive_has_none directive.Lines is line symbols after parts o e = no_instruction _ _ hint_output _ (λ v. refl) e
+directive_has_none directive.Half is line symbols after parts o e = no_instruction _ _ hint_output _ (λ v. refl) e
+directive_has_none directive.Stack is line symbols after parts o e = no_instruction _ _ hint_output _ (λ v. refl) e
+directive_has_none directive.Cell is line symbols after parts o e = no_instruction _ _ hint_output _ (λ v. refl) e
+directive_has_none directive.Fact is line symbols after parts o e = no_instruction _ _ hint_output _ (λ v. refl) e
 
 nothing_out : (is : Bool) (o : LineOutput) → ◌≡◌ {A = OrFault LineOutput} (Ok no_output) (Ok o) → IsOfInstruction is o
-nothing_out is o e i some =
-    let same : no_output ≡ o = ok_same no_output o e in
-    let no : Some i ≡ None = sym some ∙ sym (ap (λ (p : LineOutput). p.instruction) same) in
-    absurd cc
+nothing_out is o e i some = grind (arith, nat_tests, ok_same)
 
 action_of_instruction : (a : Action) (line : List ℕ) (symbols : NameMap) (address after : ℕ) (parts : List (List Token)) (o : LineOutput)
     → action_output a line symbols address after parts ≡ Ok o → IsOfInstruction (is_instruction a) o
-action_of_instruction action.Empty line symbols address after parts o e = nothing_out false o e
-action_of_instruction action.Unknown line symbols address after parts o e = nothing_out false o e
-action_of_instruction action.NoDirective line symbols address after parts o e = nothing_out false o e
 action_of_instruction (action.Directive d) line symbols address after parts o e = directive_has_none d false line symbols after parts o e
 action_of_instruction (action.Instruction mnemonic) line symbols address after parts o e = λ i some.
-    let it = made (instruction_of mnemonic (record { line = line; symbols = symbols; next = address + 2; parts = parts }))
-    instruction_output o e in
+    let it = made _ instruction_output _ e in
     let same : Some it.0 ≡ Some i = ap (λ (p : LineOutput). p.instruction) it.2 ∙ some in
     let is : it.0 ≡ i = cc in
     (sym (ap (λ (p : LineOutput). p.bytes) it.2) ∙ ap instruction_bytes is, refl)
+action_of_instruction other line symbols address after parts o e = nothing_out false o e
 
 pub line_of_instruction : (line : List ℕ) (symbols : NameMap) (address after : ℕ) (o : LineOutput) → line_output symbols address after
     line ≡ Ok o → IsOfInstruction (is_instruction_line line) o
@@ -128,8 +98,7 @@ line_of_instruction line symbols address after o e = by_case (content_of line) e
   where
     by_case : (c : OrFault (List Token)) → (c >>= tokens_output line symbols address after) ≡ Ok o → IsOfInstruction
         (is_instruction_in line c) o
-    by_case (Ok tokens) e' = action_of_instruction (action_of line (body_of tokens)) line symbols address after
-        (parts_of (arguments_in line tokens)) o e'
+    by_case (Ok tokens) e' = action_of_instruction _ _ _ _ _ _ _ e'
     by_case (Err fault) e' = absurd cc
 
 -- each item's bytes stand at its address
@@ -191,15 +160,11 @@ pub items_hold : (k : ℕ) (symbols : NameMap) (out last : Output) (lines : List
     lines addresses ≡ Ok last → EachEven lines addresses
     → AllByRecursion (ItemHolds out.image) out.items → AllByRecursion (ItemHolds last.image) last.items
 unfolding output_from
-items_hold k symbols out last [] addresses e even h = subst (λ (n : Output). AllByRecursion (ItemHolds n.image) n.items)
-    (ok_same out last e) h
+items_hold k symbols out last [] addresses e even h = subst (λ (n : Output). AllByRecursion (ItemHolds n.image) n.items) (ok_same _ _ e) h
 items_hold k symbols out last (line ∷ lines) [] e even h = subst (λ (n : Output). AllByRecursion (ItemHolds n.image) n.items)
     (ok_same out last e) h
 items_hold k symbols out last (line ∷ lines) (a ∷ addresses) e even h =
-    let it = at_line_ok k (with_line line symbols k a (following lines addresses) out) (λ next. output_from (k + 1) symbols next lines
-    addresses) last e in
-    let step = bound (line_output symbols a (following lines addresses) line) (with_output k a out) it.0
-    (sym (line_put line symbols k a (following lines addresses) out) ∙ it.1) in
-    items_hold (k + 1) symbols it.0 last lines addresses it.2 even.1
-    (line_holds k a (is_instruction_line line) out it.0 step.0 (line_of_instruction line symbols a (following lines addresses) step.0
+    let it = at_line_ok _ _ (λ next. output_from (k + 1) symbols next lines addresses) _ e in
+    let step = bound _ (with_output k a out) _ (sym (line_put _ _ _ _ _ _) ∙ it.1) in
+    items_hold (k + 1) symbols it.0 last lines addresses it.2 even.1 (line_holds _ _ _ _ _ _ (line_of_instruction _ _ _ _ _
     step.1) even.0 step.2 h)

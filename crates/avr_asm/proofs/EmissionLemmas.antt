@@ -1,7 +1,6 @@
 -- One more operand of data, and bytes that can't be put.
-use Rattle.std.proofs.Common.{◌≡◌, ℕ, zero, suc, ◌+◌, ◌<◌, ◌≤◌, Bool, true, false, List, [], ◌∷◌, Bor, length, get_or, drop, map, refl, sym}
-use Rattle.std.proofs.Common.{◌++◌, ◌∙◌, ap, add-one, append_assoc, drop-cons, arith}
-use Rattle.std.specs.Prelude.{Err, ℤ, is_some, nat_le}
+use Rattle.std.proofs.Common.{◌≡◌, ℕ, zero, suc, ◌+◌, ◌<◌, ◌≤◌, Bool, true, false, List, [], ◌∷◌, Bor, length, get_or, drop, map, refl}
+use Rattle.std.proofs.Common.{◌++◌, ◌∙◌, ap, add-one, append_assoc, drop-cons, arith, Err, ℤ, is_some, nat_le}
 use Rattle.std.specs.Int.{int_shr}
 use Rattle.std.specs.FinMap as finite
 use Rattle.std.proofs.lemmas.List.{drop_all}
@@ -26,17 +25,11 @@ pub data_more : (wide : Bool) (line : List ℕ) (symbols : NameMap) (old new : O
     (d : Bor (List Token)) → i < length ls
     → new ≡ with_number wide old (data_value wide line symbols (get_or ls i d).now)
     → data_from wide line symbols new (drop (i + 1) (map (λ l. l.now) ls)) ≡ data_from wide line symbols old (drop i (map (λ l. l.now) ls))
-data_more wide line symbols old new ls i d h e =
-    let parts = map (λ (l : Bor (List Token)). l.now) ls in
-    let inside : i < length parts = omega (arith, parts_len ls) in
-    let here : drop i parts ≡ (get_or ls i d).now ∷ drop (i + 1) parts = rw (add-one, drop-cons parts i [] inside)
-    (ap (λ p. p ∷ drop (suc i) parts) (part_there ls i d h)) in
-    ap (λ o. data_from wide line symbols o (drop (i + 1) parts)) e ∙ sym (ap (data_from wide line symbols old) here)
+data_more wide line symbols old new ls i d h e = grind (arith, nat_tests, parts_len ls, add-one, drop-cons, part_there ls i d h)
 
 pub data_end : (wide : Bool) (line : List ℕ) (symbols : NameMap) (all : OrFault (List ℕ)) (ls : List (Bor (List Token))) (i : ℕ)
     → length ls ≤ i → data_from wide line symbols all (drop i (map (λ l. l.now) ls)) ≡ all
-data_end wide line symbols all ls i h = ap (data_from wide line symbols all)
-    (drop_all i (map (λ (l : Bor (List Token)). l.now) ls) (omega (arith, parts_len ls)))
+data_end wide line symbols all ls i h = cc (drop_all i (map (λ (l : Bor (List Token)). l.now) ls) (omega (arith, parts_len ls)))
 
 pub put_past : (at i : ℕ) (bytes : List ℕ) (flash : Flash) → i < length bytes → 65536 ≤ at → put at (drop i bytes) flash ≡ Err Past
 put_past at i bytes flash h far =
@@ -60,6 +53,4 @@ put_more at i bytes flash next h near free is =
 -- a number of two bytes
 pub wide_pushed : (wide : Bool) (value : ℤ) (old first both : List ℕ) (low high : ℕ) → wide ≡ true → first ≡ old ++ low ∷ []
     → both ≡ first ++ high ∷ [] → low ≡ low_byte value → high ≡ low_byte (int_shr value 8) → both ≡ old ++ bytes_of_number wide value
-wide_pushed wide value old first both low high is first_is both_are low_is high_is =
-    both_are ∙ ap (λ xs. xs ++ high ∷ []) first_is ∙ append_assoc old (low ∷ []) (high ∷ []) ∙ ap (λ b. old ++ b ∷ high ∷ []) low_is
-    ∙ ap (λ b. old ++ low_byte value ∷ b ∷ []) high_is ∙ ap (λ w. old ++ bytes_of_number w value) (sym is)
+wide_pushed wide value old first both low high is first_is both_are low_is high_is = cc (append_assoc old (low ∷ []) (high ∷ []))

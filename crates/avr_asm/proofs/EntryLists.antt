@@ -1,9 +1,8 @@
 -- A finite map made from a list of entries, in which each key stands once.
-use Rattle.std.proofs.Common.{◌≡◌, ℕ, zero, suc, ◌<◌, Bool, true, false, ◌||◌, cond, List, [], ◌∷◌, ◌++◌, length, get_or, refl, sym, ◌∙◌}
-use Rattle.std.proofs.Common.{ap, subst, arith}
+use Rattle.std.proofs.Common.{◌≡◌, ℕ, suc, ◌<◌, true, false, cond, List, [], ◌∷◌, ◌++◌, length, get_or, refl, sym, ◌∙◌, ap, subst, arith}
 use Rattle.std.specs.Prelude.{None, Some}
 use Rattle.std.specs.declared.cmp.Ordering.{Ordering}
-use Rattle.std.specs.declared.cmp.Ordering.TheVariants.{Less, Equal, Greater}
+use Rattle.std.specs.declared.cmp.Ordering.TheVariants.{Equal}
 use Rattle.std.specs.Ordering.{eq_by_cmp, is_eq}
 use Rattle.std.specs.Cmp.{IsTotalOrder}
 use Rattle.std.specs.List.{list_any, Contains, IsDistinct}
@@ -13,24 +12,23 @@ use Rattle.std.proofs.lemmas.Cmp.{eq_by_cmp_equiv}
 use Rattle.std.proofs.lemmas.Map.Keys.{IsDistinct-push, apart_from_distinct}
 use Rattle.std.proofs.lemmas.Map.Views.{Contains-from_lookup, lookup-from_Contains}
 use Rattle.avr_asm.specs.Relation.{IsMapOf}
+use Rattle.std.proofs.lemmas.Bool.Decides.{nat_tests}
 
 pub record IsMadeOf {K X : Type 0} {R : K → K → Ordering} (m : FinMap R X) (entries : List (K × X)) : Type 0 where
   pub is : m ≡ from_entries entries
   pub once : IsDistinct (eq_by_cmp R) (keys_of entries)
 
 equal_of : (o : Ordering) → is_eq o ≡ true → o ≡ Equal
-equal_of Less e = absurd cc
 equal_of Equal e = refl
-equal_of Greater e = absurd cc
+equal_of other e = absurd cc
 
 keys_push : {K X : Type 0} (es : List (K × X)) (k : K) (v : X) → keys_of (es ++ (k, v) ∷ []) ≡ keys_of es ++ k ∷ []
 keys_push [] k v = refl
 keys_push (e ∷ es) k v = ap (λ ks. e.0 ∷ ks) (keys_push es k v)
 
 pub key_at : {K X : Type 0} (es : List (K × X)) (i : ℕ) (d : K × X) → get_or (keys_of es) i d.0 ≡ (get_or es i d).0
-key_at [] i d = refl
-key_at (e ∷ es) zero d = refl
 key_at (e ∷ es) (suc i) d = key_at es i d
+key_at other i d = refl
 
 keys_len : {K X : Type 0} (es : List (K × X)) → length (keys_of es) ≡ length es
 keys_len [] = refl
@@ -43,21 +41,11 @@ module _ {K X : Type 0} (R : K → K → Ordering) where
 
   absent : (q : K) (es : List (K × X)) → find R q es ≡ None → list_any (eq_by_cmp R q) (keys_of es) ≡ false
   absent q [] none = refl
-  absent q (e ∷ es) none = by_case (eq_by_cmp R q e.0) (absent q es) none
-    where
-      by_case : (b : Bool) → (find R q es ≡ None → list_any (eq_by_cmp R q) (keys_of es) ≡ false) → cond b (Some e.1) (find R q es) ≡ None
-          → (b || list_any (eq_by_cmp R q) (keys_of es)) ≡ false
-      by_case true rest n = absurd cc
-      by_case false rest n = rest n
+  absent q (e ∷ es) none = grind (arith, nat_tests, absent q es)
 
   not_found : (q : K) (es : List (K × X)) → list_any (eq_by_cmp R q) (keys_of es) ≡ false → find R q es ≡ None
   not_found q [] n = refl
-  not_found q (e ∷ es) n = by_case (eq_by_cmp R q e.0) (not_found q es) n
-    where
-      by_case : (b : Bool) → (list_any (eq_by_cmp R q) (keys_of es) ≡ false → find R q es ≡ None)
-          → (b || list_any (eq_by_cmp R q) (keys_of es)) ≡ false → cond b (Some e.1) (find R q es) ≡ None
-      by_case true rest m = absurd cc
-      by_case false rest m = rest m
+  not_found q (e ∷ es) n = grind (arith, nat_tests, not_found q es)
 
 pub same_key : {K : Type 0} {R : K → K → Ordering} → IsAntisymmetric R → (x y : K) → eq_by_cmp R x y ≡ true → x ≡ y
 same_key {R = R} exact x y e = exact x y (equal_of (R x y) e)

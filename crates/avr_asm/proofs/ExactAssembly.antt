@@ -1,10 +1,8 @@
 -- What stands in the relation of a source is what the passes give.
-use Rattle.std.proofs.Common.{◌≡◌, ◌≢◌, ℕ, zero, suc, ◌+◌, ◌<◌, ◌≤◌, Bool, true, false, cond, List, [], ◌∷◌, ◌++◌, length, map, get_or}
-use Rattle.std.proofs.Common.{nat_le, refl, sym, ◌∙◌, ap, subst, append_assoc, arith}
-use Rattle.std.specs.Prelude.{Option, None, Some, Result, Ok, Err, is_some, ℤ, pos}
-use Rattle.std.specs.declared.cmp.Ordering.{Ordering}
+use Rattle.std.proofs.Common.{◌≡◌, ◌≢◌, ℕ, zero, suc, ◌+◌, ◌<◌, ◌≤◌, false, cond, List, [], ◌∷◌, ◌++◌, length, map, get_or, nat_le, refl}
+use Rattle.std.proofs.Common.{sym, ◌∙◌, ap, subst, append_assoc, arith, Option, None, Some, Result, Ok, Err, is_some, ℤ, pos, Ordering}
 use Rattle.std.specs.List.{list_any, AllPairs}
-use Rattle.std.specs.Ordering.{nat_cmp, eq_by_cmp}
+use Rattle.std.specs.Ordering.{nat_cmp}
 use Rattle.std.specs.Cmp.{IsTotalOrder}
 use Rattle.std.specs.Cmp.Lexicographic.{slice_cmp, nat_list_cmp_total}
 use Rattle.std.specs.FinMap.{FinMap, IsAntisymmetric, nat_cmp-IsAntisymmetric, slice_cmp-IsAntisymmetric, find, get, insert, from_entries}
@@ -19,16 +17,15 @@ use Rattle.avr_text.specs.Names.{NameMap}
 use Rattle.avr_asm.specs.declared.errors.AsmError.{AsmError}
 use Rattle.avr_text.specs.declared.errors.AsmWhy.TheVariants as why
 use Rattle.avr_asm.specs.declared.first_pass.Effect.{Effect}
-use Rattle.avr_asm.specs.declared.first_pass.Effect.TheVariants.{Nothing, Move, Define, Take, Wrong}
+use Rattle.avr_asm.specs.declared.first_pass.Effect.TheVariants.{Define}
 use Rattle.avr_asm.specs.declared.layout.Place.{Place}
 use Rattle.avr_asm.specs.declared.output.Built.{Built}
 use Rattle.avr_asm.specs.Emission.{Flash, put}
 use Rattle.avr_text.specs.Faults.{OrFault, ◌>>=◌}
 use Rattle.avr_asm.specs.Hints.{mapped}
 use Rattle.avr_asm.specs.Layout.{is_reserved, defined, with_symbols, labelled, named, at_address, address_after, applied, arguments_in}
-use Rattle.avr_asm.specs.Layout.{effect_in}
-use Rattle.avr_asm.specs.Layout.{after_line, is_instruction_line, with_address, at_line as at_laid, layout_from, layout_of, start}
-use Rattle.avr_asm.specs.Layout.{GivesLayout}
+use Rattle.avr_asm.specs.Layout.{effect_in, after_line, is_instruction_line, with_address, at_line as at_laid, layout_from, layout_of}
+use Rattle.avr_asm.specs.Layout.{start, GivesLayout}
 use Rattle.avr_asm.specs.Lines.{lines_of, label_of, first_text, body_of, action_of, parts_of}
 use Rattle.avr_asm.specs.LineOutputs.{LineOutput, tokens_output, line_output}
 use Rattle.avr_asm.specs.Assembly.{Output, seen_built, nothing, with_line, following, at_line, output_from, output_of, assembly}
@@ -72,15 +69,8 @@ module _ {K X : Type 0} {R : K → K → Ordering} (o : IsTotalOrder R) (exact :
   -- one that is there is found
   pub found_there : (es : List (K × X)) (k : K) (v : X) (i : ℕ) → i < length es → get_or es i (k, v) ≡ (k, v) → find R k es ≡ None → ⊥
   found_there [] k v i h e none = omega arith
-  found_there (x ∷ es) k v zero h e none =
-      let hit : eq_by_cmp R k x.0 ≡ true = ap (λ (p : K × X). eq_by_cmp R k p.0) e ∙ (eq_by_cmp_equiv o).refl k in
-      let some : Some x.1 ≡ None = sym (ap (λ b. cond b (Some x.1) (find R k es)) hit) ∙ none in
-      cc
-  found_there (x ∷ es) k v (suc i) h e none = by_case (eq_by_cmp R k x.0) (found_there es k v i (omega arith) e) none
-    where
-      by_case : (b : Bool) → (find R k es ≡ None → ⊥) → cond b (Some x.1) (find R k es) ≡ None → ⊥
-      by_case true rest n = cc
-      by_case false rest n = rest n
+  found_there (x ∷ es) k v zero h e none = grind (arith, nat_tests, eq_by_cmp_equiv o)
+  found_there (x ∷ es) k v (suc i) h e none = grind (arith, nat_tests, found_there es k v i (omega arith) e)
 
   -- a map of entries is the one made from them
   is_made : (m : FinMap R X) (es : List (K × X)) → IsMapOf m es → m ≡ from_entries es
@@ -100,8 +90,7 @@ is_put_at at (b ∷ bs) flash es ys is once within =
     let below : nat_le 65536 at ≡ false = let w : at + suc (length bs) ≤ 65536 = within (omega arith) in grind (arith, nat_tests) in
     let order : (es ++ (at, b) ∷ bytes_from (at + 1) bs) ++ ys ≡ es ++ (at, b) ∷ (bytes_from (at + 1) bs ++ ys) = append_assoc es
     ((at, b) ∷ bytes_from (at + 1) bs) ys in
-    let none : find nat_cmp at es ≡ None = new_key nat_cmp_total nat_cmp-IsAntisymmetric es (bytes_from (at + 1) bs ++ ys) at b
-    (subst (λ xs. Once xs) order once) in
+    let none : find nat_cmp at es ≡ None = new_key nat_cmp_total nat_cmp-IsAntisymmetric _ _ at b (subst (λ xs. Once xs) order once) in
     let free : is_some (get flash at) ≡ false = ap is_some (ap (λ m. get m at) is ∙ get-from_entries nat_cmp_total es at ∙ none) in
     let next : insert flash at b ≡ from_entries (es ++ (at, b) ∷ []) = ap (λ m. insert m at b) is
     ∙ sym (from_entries_push nat_cmp_total nat_cmp-IsAntisymmetric es at b none) in
@@ -118,13 +107,12 @@ is_defined_new : (name : List ℕ) (value : ℤ) (symbols : NameMap) (es ys : Li
     → is_reserved name ≡ false → Once (es ++ (name, value) ∷ ys)
     → defined name value symbols ≡ Ok (from_entries (es ++ (name, value) ∷ []))
 is_defined_new name value symbols es ys is free once =
-    let none : find (slice_cmp nat_cmp) name es ≡ None = new_key nat_list_cmp_total (slice_cmp-IsAntisymmetric nat_cmp-IsAntisymmetric) es
-    ys name value once in
+    let none : find (slice_cmp nat_cmp) name es ≡ None = new_key nat_list_cmp_total (slice_cmp-IsAntisymmetric nat_cmp-IsAntisymmetric) _
+    _ name value once in
     let lacks : is_some (get symbols name) ≡ false = ap is_some (ap (λ m. get m name) is ∙ get-from_entries nat_list_cmp_total es name
     ∙ none) in
     ap (λ t. cond t (Err why.Twice) (cond (is_some (get symbols name)) (Err why.Twice) (Ok (insert symbols name value)))) free
-    ∙ ap (λ t. cond t (Err why.Twice) (Ok (insert symbols name value))) lacks
-    ∙ ap (λ m. Ok m) (ap (λ m. insert m name value) is
+    ∙ ap (λ t. cond t (Err why.Twice) (Ok (insert symbols name value))) lacks ∙ ap (λ m. Ok m) (ap (λ m. insert m name value) is
     ∙ sym (from_entries_push nat_list_cmp_total (slice_cmp-IsAntisymmetric nat_cmp-IsAntisymmetric) es name value none))
 
 -- a place whose symbols are those of some entries
@@ -144,10 +132,7 @@ equ_gives : (effect : Effect) (name : List ℕ) (address : ℕ) (es ys : List (L
     → named effect name (place_of address es) ≡ Ok (place_of address (es ++ equ_entries effect name))
 equ_gives (Define value) name address es ys free once = ap (with_symbols address) (is_defined_new name value (from_entries es) es ys refl
     free.0 (subst (λ xs. Once xs) (append_assoc es ((name, value) ∷ []) ys) once))
-equ_gives Nothing name address es ys free once = ap (λ xs. Ok (place_of address xs)) (sym (append-nil es))
-equ_gives (Move to) name address es ys free once = ap (λ xs. Ok (place_of address xs)) (sym (append-nil es))
-equ_gives (Take n even) name address es ys free once = ap (λ xs. Ok (place_of address xs)) (sym (append-nil es))
-equ_gives Wrong name address es ys free once = ap (λ xs. Ok (place_of address xs)) (sym (append-nil es))
+equ_gives other name address es ys free once = ap (λ xs. Ok (place_of address xs)) (sym (append-nil es))
 
 free_front : (xs ys : List (List ℕ × ℤ)) → AreFree (xs ++ ys) → AreFree xs
 free_front [] ys f = tt
@@ -172,9 +157,8 @@ statement_laid symbols before s after ys is free once =
     let es = names_of before in
     let regroup : (es ++ (labels ++ equs)) ++ ys ≡ (es ++ labels) ++ (equs ++ ys) = ap (λ xs. xs ++ ys) (sym (append_assoc es labels equs))
     ∙ append_assoc (es ++ labels) equs ys in
-    let label = label_gives (label_of s.source s.tokens) s.address es (equs ++ ys) (free_front labels equs free)
-    (subst (λ xs. Once xs) regroup once) in
-    let equ = equ_gives s.effect name s.address (es ++ labels) ys (free_back labels equs free)
+    let label = label_gives _ _ es (equs ++ ys) (free_front labels equs free) (subst (λ xs. Once xs) regroup once) in
+    let equ = equ_gives _ _ _ (es ++ labels) ys (free_back labels equs free)
     (subst (λ xs. Once xs) (regroup ∙ sym (append_assoc (es ++ labels) equs ys)) once) in
     ap (λ (o : OrFault (List Token)). o >>= (λ tokens. effect_in s.source (from_entries es) follows tokens >>=
     (λ effect. applied (label_of s.source tokens) (first_text s.source (arguments_in s.source tokens)) effect (place_of s.address es))))
@@ -191,8 +175,7 @@ all_laid : (symbols : NameMap) (k address : ℕ) (before ss : List Statement) �
     → layout_from k (place_of address (names_of before)) (map (λ s. s.source) ss) ≡ Ok
     (record { addresses = map (λ s. s.address) ss; symbols = from_entries (names_of (before ++ ss)) })
 unfolding layout_from
-all_laid symbols k address before [] chain at free once = ap (λ bs. Ok (record { addresses = []; symbols = from_entries (names_of bs) }))
-    (sym (append-nil before))
+all_laid symbols k address before [] chain at free once = cc (append-nil before)
 all_laid symbols k address before (s ∷ ss) chain at free once =
     let front : (before ++ s ∷ []) ++ ss ≡ before ++ s ∷ ss = append_assoc before (s ∷ []) ss in
     let here : address ≡ s.address = at ∙ sym chain.0.located in
@@ -219,9 +202,8 @@ unfolding effect_in
 within_flash counts symbols before s after is =
     (line_end counts (action_of s.source (body_of s.tokens)) s.source (from_entries (names_of before)) symbols
     (arguments_in s.source s.tokens) (parts_of (arguments_in s.source s.tokens))
-    (list_any is_instruction_line (map (λ (t : Statement). t.source) after)) s.address (following (map (λ (t : Statement). t.source) after)
-    (map (λ (t : Statement). t.address) after))
-    (end_by s.effect s.address s.output.bytes) s.effect s.output is.known is.puts is.fits).1
+    (list_any is_instruction_line (map (λ (t : Statement). t.source) after)) _ (following (map (λ (t : Statement). t.source) after)
+    (map (λ (t : Statement). t.address) after)) _ _ _ is.known is.puts is.fits).1
 
 -- the second pass over a statement
 abbrev output_of_statements : List Statement → List Statement → Output → Output
@@ -243,23 +225,18 @@ statement_put : (counts : WordsByName) (symbols : NameMap) (k : ℕ) (before : L
 unfolding line_output
 statement_put counts symbols k before s after ys out is number image once =
     let next = following (map (λ (t : Statement). t.source) after) (map (λ (t : Statement). t.address) after) in
-    let bytes = is_put_at s.address s.output.bytes out.image (bytes_of before) ys image once
-    (within_flash counts symbols before s after is) in
-    line_put s.source symbols k s.address next out
+    let bytes = is_put_at _ _ _ (bytes_of before) ys image once (within_flash counts symbols before s after is) in
+    line_put _ _ _ _ _ _
     ∙ ap (λ (o : OrFault (List Token)). (o >>= tokens_output s.source symbols s.address next) >>= with_output k s.address out) is.read
-    ∙ ap (λ (o : OrFault LineOutput). o >>= with_output k s.address out) is.puts
-    ∙ ap (λ (o : OrFault Flash). mapped o (λ image. record {
+    ∙ ap (λ (o : OrFault LineOutput). o >>= with_output k s.address out) is.puts ∙ ap (λ (o : OrFault Flash). mapped o (λ image. record {
       image = image;
       items = out.items ++ item_of k s.address s.output.instruction;
       hints = out.hints ++ hint_list s.output.hint;
-    })) bytes
-    ∙ ap (λ n. Ok (record {
+    })) bytes ∙ ap (λ n. Ok (record {
       image = from_entries (bytes_of before ++ bytes_from s.address s.output.bytes);
-      items = out.items
-          ++ item_of n s.address s.output.instruction;
+      items = out.items ++ item_of n s.address s.output.instruction;
       hints = out.hints ++ hint_list s.output.hint;
-    })) (sym number)
-    ∙ ap (λ xs. Ok (record {
+    })) (sym number) ∙ ap (λ xs. Ok (record {
       image = from_entries xs;
       items = out.items ++ item_of s.number s.address s.output.instruction;
       hints = out.hints ++ hint_list s.output.hint;
@@ -267,8 +244,7 @@ statement_put counts symbols k before s after ys out is number image once =
 
 pub bytes_append : (xs ys : List Statement) → bytes_of (xs ++ ys) ≡ bytes_of xs ++ bytes_of ys
 bytes_append [] ys = refl
-bytes_append (x ∷ xs) ys = ap (λ ds. bytes_from x.address x.output.bytes ++ ds) (bytes_append xs ys)
-    ∙ sym (append_assoc (bytes_from x.address x.output.bytes) (bytes_of xs) (bytes_of ys))
+bytes_append (x ∷ xs) ys = cc (bytes_append xs ys, append_assoc (bytes_from x.address x.output.bytes) (bytes_of xs) (bytes_of ys))
 
 all_put : (counts : WordsByName) (symbols : NameMap) (k : ℕ) (before ss : List Statement) (out : Output) → Chain symbols before ss
     → k ≡ length before + 1 → out.image ≡ from_entries (bytes_of before) → Once (bytes_of (before ++ ss))
@@ -287,18 +263,15 @@ all_put counts symbols k before (s ∷ ss) out chain count image once =
     bytes_append before (s ∷ ss) ∙ sym (append_assoc (bytes_of before) (bytes_from s.address s.output.bytes) (bytes_of ss)) in
     let next : Output = record {
       image = from_entries (bytes_of (before ++ s ∷ []));
-      items = out.items ++ item_of s.number s.address
-          s.output.instruction;
+      items = out.items ++ item_of s.number s.address s.output.instruction;
       hints = out.hints ++ hint_list s.output.hint;
     } in
-    let step = statement_put counts symbols k before s ss (bytes_of ss) out chain.0 number image (subst (λ xs. Once xs) bytes once) in
+    let step = statement_put counts _ _ _ _ _ (bytes_of ss) _ chain.0 number image (subst (λ xs. Once xs) bytes once) in
     let more : k + 1 ≡ length (before ++ s ∷ []) + 1 = omega (arith, count, length-append before (s ∷ [])) in
     let rest = all_put counts symbols (k + 1) (before ++ s ∷ []) ss next chain.1 more refl
     (subst (λ bs. Once (bytes_of bs)) (sym front) once) in
     ap (λ (o : OrFault Output). at_line k o (λ n. output_from (k + 1) symbols n (map (λ (t : Statement). t.source) ss)
-    (map (λ (t : Statement). t.address) ss))) step
-    ∙ rest
-    ∙ (λ i. Ok (record {
+    (map (λ (t : Statement). t.address) ss))) step ∙ rest ∙ (λ i. Ok (record {
       image = from_entries (bytes_of (front i));
       items = append_assoc out.items (item_of s.number s.address s.output.instruction) (items_of ss) i;
       hints = append_assoc out.hints (hint_list s.output.hint) (hints_of ss) i;
@@ -309,16 +282,15 @@ pub exact_layout : (text : List ℕ) (out : Output) (is : IsAssembly text out) �
     (record { addresses = map (λ s. s.address) is.statements; symbols = is.symbols })
 exact_layout text out is =
     let ss = is.statements in
-    let chain = chain_from is.symbols [] ss is.meanings in
+    let chain = chain_from _ [] _ is.meanings in
     let symbols : is.symbols ≡ from_entries (names_of ss) = is_made nat_list_cmp_total (slice_cmp-IsAntisymmetric nat_cmp-IsAntisymmetric)
     is.symbols (names_of ss) is.names in
     let begins : start ≡ place_of 0 (names_of []) =
     λ i. record {
       address = 0;
-      symbols = (predefined_made.is ∙ ap (λ xs. from_entries {R = slice_cmp nat_cmp} xs)
-          (sym (append-nil predefined_names))) i;
+      symbols = (predefined_made.is ∙ ap (λ xs. from_entries {R = slice_cmp nat_cmp} xs) (sym (append-nil predefined_names))) i;
     } in
-    let laid = all_laid is.symbols 1 0 [] ss chain refl (recursion_from_All (λ entry. is_reserved entry.0 ≡ false) (definitions_of ss)
+    let laid = all_laid _ _ _ _ _ chain refl (recursion_from_All (λ entry. is_reserved entry.0 ≡ false) (definitions_of ss)
     is.free) is.names.once in
     ap layout_of (sym is.sources) ∙ ap (λ p. layout_from 1 p (map (λ (s : Statement). s.source) ss)) begins ∙ laid
     ∙ ap (λ m. Ok (record { addresses = map (λ (s : Statement). s.address) ss; symbols = m })) (sym symbols)
@@ -326,13 +298,12 @@ exact_layout text out is =
 pub exact_assembly : (counts : WordsByName) (text : List ℕ) (out : Output) → IsAssembly text out → assembly text ≡ Ok out
 exact_assembly counts text out is =
     let ss = is.statements in
-    let chain = chain_from is.symbols [] ss is.meanings in
+    let chain = chain_from _ _ _ is.meanings in
     let image : out.image ≡ from_entries (bytes_of ss) = is_made nat_cmp_total nat_cmp-IsAntisymmetric out.image (bytes_of ss) is.image in
     let puts = all_put counts is.symbols 1 [] ss nothing chain refl refl is.image.once in
     let same : Output = record { image = from_entries (bytes_of ss); items = items_of ss; hints = hints_of ss } in
     ap (output_of (lines_of text)) (exact_layout text out is)
-    ∙ ap (λ ls. output_from 1 is.symbols nothing ls (map (λ (s : Statement). s.address) ss)) (sym is.sources)
-    ∙ puts
+    ∙ ap (λ ls. output_from 1 is.symbols nothing ls (map (λ (s : Statement). s.address) ss)) (sym is.sources) ∙ puts
     ∙ (λ i. Ok (record { image = sym image i; items = sym is.items i; hints = sym is.hints i }))
 
 -- so a source has one assembly at most

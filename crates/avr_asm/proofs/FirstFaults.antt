@@ -1,8 +1,7 @@
 -- The first fault of a source is what the passes tell, and a source is assembled or has one.
-use Rattle.std.proofs.Common.{◌≡◌, ℕ, ◌+◌, ◌⊎◌, List, [], ◌∷◌, ◌++◌, length, map, inl, inr, refl, sym, ◌∙◌, ap, subst, arith}
+use Rattle.std.proofs.Common.{◌≡◌, ℕ, ◌+◌, ◌⊎◌, List, [], ◌∷◌, ◌++◌, length, map, inl, inr, refl, sym, ◌∙◌, ap, subst, arith, nat_cmp}
 use Rattle.std.specs.Prelude.{◌↔◌, Result, Ok, Err, IfErr}
 use Rattle.std.specs.FinMap.{empty, from_entries}
-use Rattle.std.specs.Ordering.{nat_cmp}
 use Rattle.std.specs.List.{IsDistinct}
 use Rattle.avr_text.specs.declared.errors.AsmWhy.{AsmWhy}
 use Rattle.avr_text.specs.declared.errors.AsmWhy.TheVariants as why
@@ -21,6 +20,7 @@ use Rattle.avr_asm.proofs.KeptEffects.{ValuesStay}
 use Rattle.avr_asm.proofs.LineEnds.{WordsByName}
 use Rattle.avr_asm.proofs.SecondPassFaults.{FaultFrom, OutputSays, outputs_say, fault_put}
 use Rattle.avr_asm.proofs.Statements.{is_assembly}
+use Rattle.std.proofs.lemmas.Bool.Decides.{nat_tests}
 
 nothing_made : IsMadeOf {X = ℕ} {R = nat_cmp} empty []
 unfolding IsDistinct
@@ -67,11 +67,10 @@ refused counts text n w (inr second) =
     let all = map (λ (f : Filled). f.laid) second.before ++ second.line ∷ second.after in
     let symbols = (place_after all).symbols in
     let layout : layout_of (lines_of text) ≡ Ok (record { addresses = map (λ (x : Laid). x.address) all; symbols = symbols }) =
-    ap layout_of second.cut ∙ all_laid_out all second.laid in
+    ap layout_of second.cut ∙ all_laid_out _ second.laid in
     let count : 1 + length second.before ≡ n = omega (arith, second.numbered) in
-    ap (output_of (lines_of text)) layout
-    ∙ ap (λ ls. output_from 1 symbols nothing ls (map (λ (x : Laid). x.address) all)) second.cut
-    ∙ fault_put counts symbols second.before second.line second.after 1 nothing w second.laid second.filled nothing_made second.fault
+    ap (output_of (lines_of text)) layout ∙ ap (λ ls. output_from 1 symbols nothing ls (map (λ (x : Laid). x.address) all)) second.cut
+    ∙ fault_put counts _ _ _ _ _ _ _ second.laid second.filled nothing_made second.fault
     ∙ ap (λ m. Err (record { line = m; why = w })) count
 
 pub fault_exact : (counts : WordsByName) (text : List ℕ) (e : AsmError) → (assembly text ≡ Err e) ↔ IsFirstFault text e.line e.why
@@ -94,14 +93,7 @@ decided stay counts text = go (assembly text) refl
 
 pub one_fault : (counts : WordsByName) (text : List ℕ) (n m : ℕ) (v w : AsmWhy) → IsFirstFault text n v → IsFirstFault text m w → (n ≡ m)
     × (v ≡ w)
-one_fault counts text n m v w a b =
-    let e : ◌≡◌ {A = Result Output AsmError} (Err (record { line = n; why = v })) (Err (record { line = m; why = w })) =
-    sym (refused counts text n v a) ∙ refused counts text m w b in
-    (ap (λ r. (told r).line) e, ap (λ r. (told r).why) e)
-  where
-    told : Result Output AsmError → AsmError
-    told (Ok out) = record { line = n; why = v }
-    told (Err fault) = fault
+one_fault counts text n m v w a b = grind (arith, nat_tests, refused counts text n v a, refused counts text m w b)
 
 pub not_both : (counts : WordsByName) (text : List ℕ) (out : Output) (n : ℕ) (w : AsmWhy) → IsAssembly text out → IsFirstFault text n w → ⊥
 not_both counts text out n w is fault =

@@ -1,35 +1,30 @@
 -- What the first pass over a line says: it is laid out and has no fault, or has one of least number.
-use Rattle.std.proofs.Common.{◌≡◌, ℕ, ◌+◌, ◌%◌, ◌<◌, ◌≤◌, ◌⊎◌, Bool, true, false, ◌&&◌, not, cond, List, [], ◌∷◌, nat_lt, refl}
-use Rattle.std.proofs.Common.{sym, ◌∙◌, ap, subst, inl, inr, arith}
-use Rattle.std.specs.Prelude.{Option, None, Some, Result, Ok, Err, is_some, ◌==◌, ℤ, pos}
+use Rattle.std.proofs.Common.{◌≡◌, ℕ, ◌+◌, ◌%◌, ◌<◌, ◌≤◌, ◌⊎◌, Bool, true, false, cond, List, [], ◌∷◌, nat_lt, refl, sym, ◌∙◌, ap, subst}
+use Rattle.std.proofs.Common.{inl, inr, arith, Option, None, Some, Ok, Err, is_some, ℤ, pos}
 use Rattle.std.specs.Ordering.{nat_cmp, eq_by_cmp}
 use Rattle.std.specs.Cmp.Lexicographic.{slice_cmp, nat_list_cmp_total}
 use Rattle.std.specs.FinMap.{nat_cmp-IsAntisymmetric, slice_cmp-IsAntisymmetric, get, insert, get-insert}
 use Rattle.std.proofs.lemmas.Bool.Decides.{nat_tests}
 use Rattle.std.proofs.lemmas.Cmp.{eq_by_cmp_equiv}
-use Rattle.avr_text.specs.declared.tokens.LexError.{LexError}
 use Rattle.avr_text.specs.declared.tokens.Token.{Token}
 use Rattle.avr_text.specs.declared.values.ValueWhy.TheVariants as value_why
 use Rattle.avr_text.specs.Arithmetic as text
 use Rattle.avr_text.specs.Names.{NameMap}
-use Rattle.avr_text.specs.Reading.{is_mark_of, value_of}
-use Rattle.avr_text.specs.Tokens.{tokens_of}
+use Rattle.avr_text.specs.Reading.{value_of}
 use Rattle.avr_text.specs.declared.errors.AsmWhy.{AsmWhy}
 use Rattle.avr_text.specs.declared.errors.AsmWhy.TheVariants as why
 use Rattle.avr_text.specs.Faults.{OrFault, ◌>>=◌, number_of}
 use Rattle.avr_text.specs.Operands.{expression, number, line_fault, within}
 use Rattle.avr_asm.specs.declared.directives.Directive.TheVariants as directive
 use Rattle.avr_asm.specs.declared.first_pass.Effect.{Effect}
-use Rattle.avr_asm.specs.declared.first_pass.Effect.TheVariants.{Nothing, Move, Define, Take, Wrong}
+use Rattle.avr_asm.specs.declared.first_pass.Effect.TheVariants.{Define, Take, Wrong}
 use Rattle.avr_asm.specs.declared.layout.Place.{Place}
 use Rattle.avr_asm.specs.declared.lines.Action.{Action}
 use Rattle.avr_asm.specs.declared.lines.Action.TheVariants as action
-use Rattle.avr_asm.specs.FirstFault.{IsLeast, OrgFault, EquFault, ValueFault, LacksValue, IsTaken, DefinesTaken}
-use Rattle.avr_asm.specs.FirstFault.{InFirstPass}
+use Rattle.avr_asm.specs.FirstFault.{IsLeast, OrgFault, EquFault, ValueFault, LacksValue, IsTaken, DefinesTaken, InFirstPass}
 use Rattle.avr_asm.specs.Layout.{is_reserved, defined, moved, set, org_effect, equ_effect, effect_of, effect_in, address_after}
-use Rattle.avr_asm.specs.Layout.{with_symbols}
-use Rattle.avr_asm.specs.Layout.{labelled, named, at_address, applied, arguments_in, after_line}
-use Rattle.avr_asm.specs.Lines.{content_of, content, label_of, body_of, action_of, parts_of, is_name, first_text}
+use Rattle.avr_asm.specs.Layout.{with_symbols, labelled, named, at_address, applied, arguments_in, after_line}
+use Rattle.avr_asm.specs.Lines.{content_of, label_of, body_of, action_of, parts_of, first_text}
 use Rattle.avr_asm.proofs.EntryLists.{same_key}
 use Rattle.avr_asm.proofs.LaidLines.{label_keeps, name_keeps}
 use Rattle.avr_asm.proofs.OutcomeLemmas.{ok_same}
@@ -60,36 +55,23 @@ set_err (Err v) w e = ap (λ u. Err u) (err_same {X = Effect} v w e)
 
 org_fault : (line : List ℕ) (symbols : NameMap) (parts : List (List Token)) (w : AsmWhy) → org_effect line symbols parts ≡ Err w
     → OrgFault line symbols parts w
-org_fault line symbols [] w e = absurd cc
 org_fault line symbols (p ∷ []) w e = moved_err (number (pos 0) (pos 65536) line symbols p) w e
-org_fault line symbols (p ∷ q ∷ rest) w e = absurd cc
+org_fault line symbols other w e = absurd cc
 
 fault_org : (line : List ℕ) (symbols : NameMap) (parts : List (List Token)) (w : AsmWhy) → OrgFault line symbols parts w → org_effect line
     symbols parts ≡ Err w
-fault_org line symbols [] w f = absurd f
 fault_org line symbols (p ∷ []) w f = ap moved f
-fault_org line symbols (p ∷ q ∷ rest) w f = absurd f
+fault_org line symbols other w f = absurd f
 
 equ_fault : (line : List ℕ) (symbols : NameMap) (arguments : List Token) (w : AsmWhy) → equ_effect line symbols arguments ≡ Err w
     → EquFault line symbols arguments w
-equ_fault line symbols [] w e = absurd cc
-equ_fault line symbols (n ∷ []) w e = absurd cc
-equ_fault line symbols (n ∷ q ∷ rest) w e = go (is_name n.kind) (is_mark_of 61 q.kind) refl refl e
-  where
-    go : (a b : Bool) → is_name n.kind ≡ a → is_mark_of 61 q.kind ≡ b → cond (a && b) (set (expression line symbols None rest))
-        (Ok Wrong) ≡ Err w → EquFault line symbols (n ∷ q ∷ rest) w
-    go true true f g e' = (f, g, set_err (expression line symbols None rest) w e')
-    go true false f g e' = absurd cc
-    go false b f g e' = absurd cc
+equ_fault line symbols (n ∷ q ∷ rest) w e = grind (arith, nat_tests, set_err (expression line symbols None rest) w)
+equ_fault line symbols other w e = absurd cc
 
 fault_equ : (line : List ℕ) (symbols : NameMap) (arguments : List Token) (w : AsmWhy) → EquFault line symbols arguments w → equ_effect line
     symbols arguments ≡ Err w
-fault_equ line symbols [] w f = absurd f
-fault_equ line symbols (n ∷ []) w f = absurd f
-fault_equ line symbols (n ∷ q ∷ rest) w f =
-    ap (λ a. cond (a && is_mark_of 61 q.kind) (set (expression line symbols None rest)) (Ok Wrong)) f.0
-    ∙ ap (λ b. cond b (set (expression line symbols None rest)) (Ok Wrong)) f.1
-    ∙ ap set f.2
+fault_equ line symbols (n ∷ q ∷ rest) w f = cc (f.0, f.1, f.2)
+fault_equ line symbols other w f = absurd f
 
 -- why a line has no effect
 abbrev NoEffect : Action → List ℕ → NameMap → List Token → AsmWhy → Type 0
@@ -97,54 +79,28 @@ NoEffect a line symbols arguments w = ((a ≡ action.Unknown) × (w ≡ why.Mnem
 
 no_effect : (a : Action) (line : List ℕ) (symbols : NameMap) (arguments : List Token) (follows : Bool) (w : AsmWhy)
     → effect_of a line symbols arguments (parts_of arguments) follows ≡ Err w → NoEffect a line symbols arguments w
-no_effect action.Empty line symbols arguments follows w e = absurd cc
 no_effect action.Unknown line symbols arguments follows w e = inl (refl, sym (err_same {X = Effect} why.Mnemonic w e))
-no_effect action.NoDirective line symbols arguments follows w e = absurd cc
-no_effect (action.Instruction m) line symbols arguments follows w e = absurd cc
 no_effect (action.Directive directive.Org) line symbols arguments follows w e = inr (org_fault line symbols (parts_of arguments) w e)
 no_effect (action.Directive directive.Equ) line symbols arguments follows w e = inr (equ_fault line symbols arguments w e)
-no_effect (action.Directive directive.Db) line symbols arguments follows w e = absurd cc
-no_effect (action.Directive directive.Dw) line symbols arguments follows w e = absurd cc
-no_effect (action.Directive directive.Start) line symbols arguments follows w e = absurd cc
-no_effect (action.Directive directive.Lines) line symbols arguments follows w e = absurd cc
-no_effect (action.Directive directive.Half) line symbols arguments follows w e = absurd cc
-no_effect (action.Directive directive.Stack) line symbols arguments follows w e = absurd cc
-no_effect (action.Directive directive.Cell) line symbols arguments follows w e = absurd cc
-no_effect (action.Directive directive.Fact) line symbols arguments follows w e = absurd cc
+no_effect other line symbols arguments follows w e = absurd cc
 
 value_effect : (a : Action) (line : List ℕ) (symbols : NameMap) (arguments : List Token) (follows : Bool) (w : AsmWhy)
     → ValueFault a line symbols arguments w → effect_of a line symbols arguments (parts_of arguments) follows ≡ Err w
-value_effect action.Empty line symbols arguments follows w f = absurd f
-value_effect action.Unknown line symbols arguments follows w f = absurd f
-value_effect action.NoDirective line symbols arguments follows w f = absurd f
-value_effect (action.Instruction m) line symbols arguments follows w f = absurd f
 value_effect (action.Directive directive.Org) line symbols arguments follows w f = fault_org line symbols (parts_of arguments) w f
 value_effect (action.Directive directive.Equ) line symbols arguments follows w f = fault_equ line symbols arguments w f
-value_effect (action.Directive directive.Db) line symbols arguments follows w f = absurd f
-value_effect (action.Directive directive.Dw) line symbols arguments follows w f = absurd f
-value_effect (action.Directive directive.Start) line symbols arguments follows w f = absurd f
-value_effect (action.Directive directive.Lines) line symbols arguments follows w f = absurd f
-value_effect (action.Directive directive.Half) line symbols arguments follows w f = absurd f
-value_effect (action.Directive directive.Stack) line symbols arguments follows w f = absurd f
-value_effect (action.Directive directive.Cell) line symbols arguments follows w f = absurd f
-value_effect (action.Directive directive.Fact) line symbols arguments follows w f = absurd f
+value_effect other line symbols arguments follows w f = absurd f
 
 -- which whys an expression has
 expression_why : (o : text.ValueOrWhy) (w : AsmWhy) → line_fault o ≡ Err w → IsValueWhy w
 expression_why (Ok x) w e = absurd cc
 expression_why (Err value_why.Form) w e = subst IsValueWhy (err_same {X = ℤ} why.Operand w e) tt
 expression_why (Err value_why.Unknown) w e = subst IsValueWhy (err_same {X = ℤ} why.Symbol w e) tt
-expression_why (Err value_why.Overflow) w e = subst IsValueWhy (err_same {X = ℤ} why.Range w e) tt
-expression_why (Err value_why.ZeroDivisor) w e = subst IsValueWhy (err_same {X = ℤ} why.Range w e) tt
+expression_why other w e = subst IsValueWhy (err_same {X = ℤ} why.Range w e) tt
 
 within_why : (low high : ℤ) (o : OrFault ℤ) (w : AsmWhy) → ((v : AsmWhy) → o ≡ Err v → IsValueWhy v) → within low high o ≡ Err w
     → IsValueWhy w
 within_why low high (Err v) w h e = h w e
-within_why low high (Ok x) w h e = go _ e
-  where
-    go : (t : Bool) → cond t (Ok x) (Err why.Range) ≡ Err w → IsValueWhy w
-    go true e' = absurd cc
-    go false e' = subst IsValueWhy (err_same {X = ℤ} why.Range w e') tt
+within_why low high (Ok x) w h e = grind (arith, nat_tests, err_same)
 
 number_why : (low high : ℤ) (line : List ℕ) (symbols : NameMap) (tokens : List Token) (w : AsmWhy) → number low high line symbols
     tokens ≡ Err w → IsValueWhy w
@@ -152,56 +108,31 @@ number_why low high line symbols tokens w e = within_why low high (expression li
     (λ v f. expression_why (value_of line tokens symbols None) v f) e
 
 org_why : (line : List ℕ) (symbols : NameMap) (parts : List (List Token)) (w : AsmWhy) → OrgFault line symbols parts w → IsValueWhy w
-org_why line symbols [] w f = absurd f
 org_why line symbols (p ∷ []) w f = number_why (pos 0) (pos 65536) line symbols p w f
-org_why line symbols (p ∷ q ∷ rest) w f = absurd f
+org_why line symbols other w f = absurd f
 
 equ_why : (line : List ℕ) (symbols : NameMap) (arguments : List Token) (w : AsmWhy) → EquFault line symbols arguments w → IsValueWhy w
-equ_why line symbols [] w f = absurd f
-equ_why line symbols (n ∷ []) w f = absurd f
 equ_why line symbols (n ∷ q ∷ rest) w f = expression_why (value_of line rest symbols None) w f.2
+equ_why line symbols other w f = absurd f
 
 fault_why : (a : Action) (line : List ℕ) (symbols : NameMap) (arguments : List Token) (w : AsmWhy) → ValueFault a line symbols arguments w
     → IsValueWhy w
-fault_why action.Empty line symbols arguments w f = absurd f
-fault_why action.Unknown line symbols arguments w f = absurd f
-fault_why action.NoDirective line symbols arguments w f = absurd f
-fault_why (action.Instruction m) line symbols arguments w f = absurd f
 fault_why (action.Directive directive.Org) line symbols arguments w f = org_why line symbols (parts_of arguments) w f
 fault_why (action.Directive directive.Equ) line symbols arguments w f = equ_why line symbols arguments w f
-fault_why (action.Directive directive.Db) line symbols arguments w f = absurd f
-fault_why (action.Directive directive.Dw) line symbols arguments w f = absurd f
-fault_why (action.Directive directive.Start) line symbols arguments w f = absurd f
-fault_why (action.Directive directive.Lines) line symbols arguments w f = absurd f
-fault_why (action.Directive directive.Half) line symbols arguments w f = absurd f
-fault_why (action.Directive directive.Stack) line symbols arguments w f = absurd f
-fault_why (action.Directive directive.Cell) line symbols arguments w f = absurd f
-fault_why (action.Directive directive.Fact) line symbols arguments w f = absurd f
+fault_why other line symbols arguments w f = absurd f
 
 value_low : (w : AsmWhy) → IsValueWhy w → number_of w ≤ 5
 value_low why.Operand h = omega arith
 value_low why.Range h = omega arith
 value_low why.Symbol h = omega arith
-value_low why.Lex h = absurd h
-value_low why.Mnemonic h = absurd h
-value_low why.Twice h = absurd h
-value_low why.Overlap h = absurd h
-value_low why.Past h = absurd h
-value_low why.Directive h = absurd h
-value_low why.Memory h = absurd h
+value_low other h = absurd h
 
 value_stands : (follows : Bool) (line : List ℕ) (place : Place) (w : AsmWhy) → IsValueWhy w → LacksValue line place.symbols w
     → InFirstPass follows line place w
 value_stands follows line place why.Operand h f = f
 value_stands follows line place why.Range h f = f
 value_stands follows line place why.Symbol h f = f
-value_stands follows line place why.Lex h f = absurd h
-value_stands follows line place why.Mnemonic h f = absurd h
-value_stands follows line place why.Twice h f = absurd h
-value_stands follows line place why.Overlap h f = absurd h
-value_stands follows line place why.Past h f = absurd h
-value_stands follows line place why.Directive h f = absurd h
-value_stands follows line place why.Memory h f = absurd h
+value_stands follows line place other h f = absurd h
 
 -- ---- names
 
@@ -211,14 +142,8 @@ some_there (Some x) e = (x, refl)
 
 -- a name that can't be defined is refused, and nothing else is
 taken_err : (name : List ℕ) (value : ℤ) (symbols : NameMap) → IsTaken symbols name → defined name value symbols ≡ Err why.Twice
-taken_err name value symbols (inl reserved) =
-    ap (λ t. cond t (Err why.Twice) (cond (is_some (get symbols name)) (Err why.Twice) (Ok (insert symbols name value)))) reserved
-taken_err name value symbols (inr there) = go (is_reserved name) (ap is_some there.1)
-  where
-    go : (t : Bool) → is_some (get symbols name) ≡ true → cond t (Err why.Twice) (cond (is_some (get symbols name)) (Err why.Twice)
-        (Ok (insert symbols name value))) ≡ Err why.Twice
-    go true s = refl
-    go false s = ap (λ t. cond t (Err why.Twice) (Ok (insert symbols name value))) s
+taken_err name value symbols (inl reserved) = cc
+taken_err name value symbols (inr there) = grind (arith, nat_tests)
 
 err_taken : (name : List ℕ) (value : ℤ) (symbols : NameMap) (w : AsmWhy) → defined name value symbols ≡ Err w → (w ≡ why.Twice)
     × IsTaken symbols name
@@ -254,12 +179,7 @@ taken_more symbols name other value (inr there) = inr (go (eq_by_cmp (slice_cmp 
     go false e = (there.0, e ∙ there.1)
 
 taken_own : (symbols : NameMap) (name : List ℕ) (value : ℤ) → IsTaken (insert symbols name value) name
-taken_own symbols name value =
-    inr (
-      value,
-      found symbols name name value ∙ ap (λ t. cond t (Some value) (get symbols name))
-          ((eq_by_cmp_equiv nat_list_cmp_total).refl name),
-    )
+taken_own symbols name value = grind (arith, nat_tests, found symbols name name value, eq_by_cmp_equiv nat_list_cmp_total)
 
 taken_back : (symbols : NameMap) (name other : List ℕ) (value : ℤ) → IsTaken (insert symbols name value) other → IsTaken symbols other
     ⊎ (name ≡ other)
@@ -284,8 +204,7 @@ label_err : (label : Option (List ℕ)) (place : Place) (w : AsmWhy) → labelle
     × (label ≡ Some name) × IsTaken place.symbols name
 label_err None place w e = absurd cc
 label_err (Some name) place w e =
-    let it = err_taken name (pos place.address) place.symbols w (with_err place.address (defined name (pos place.address) place.symbols) w
-    e) in
+    let it = err_taken _ _ _ _ (with_err _ _ _ e) in
     (it.0, name, refl, it.1)
 
 name_err : (effect : Effect) (name : List ℕ) (place : Place) (w : AsmWhy) → named effect name place ≡ Err w → (w ≡ why.Twice) × (value : ℤ)
@@ -293,19 +212,15 @@ name_err : (effect : Effect) (name : List ℕ) (place : Place) (w : AsmWhy) → 
 name_err (Define value) name place w e =
     let it = err_taken name value place.symbols w (with_err place.address (defined name value place.symbols) w e) in
     (it.0, value, refl, it.1)
-name_err Nothing name place w e = absurd cc
-name_err (Move to) name place w e = absurd cc
-name_err (Take n even) name place w e = absurd cc
-name_err Wrong name place w e = absurd cc
+name_err other name place w e = absurd cc
 
 -- a name that is taken after the label was so before, or is the label
 past_label : (label : Option (List ℕ)) (place first : Place) (name : List ℕ) → labelled label place ≡ Ok first → IsTaken first.symbols name
     → IsTaken place.symbols name ⊎ (label ≡ Some name)
 past_label None place first name e taken = inl (subst (λ (p : Place). IsTaken p.symbols name) (sym (ok_same place first e)) taken)
 past_label (Some label) place first name e taken =
-    let is = new_symbols label (pos place.address) place.symbols first.symbols
-    (with_ok place.address (defined label (pos place.address) place.symbols) first e) in
-    elim (taken_back place.symbols label name (pos place.address) (subst (λ m. IsTaken m name) (sym is) taken)) [
+    let is = new_symbols _ _ _ _ (with_ok _ _ _ e) in
+    elim (taken_back _ _ _ _ (subst (λ m. IsTaken m name) (sym is) taken)) [
       | inl before ↦ inl before
       | inr same ↦ inr (ap (λ n. Some n) same)
     ]
@@ -337,31 +252,15 @@ NoPlace effect address w =
     ⊎ ((w ≡ why.Directive) × ((effect ≡ Wrong) ⊎ ((n : ℕ) × (effect ≡ Take n true) × (address % 2 ≡ 1))))
 
 pub no_place : (effect : Effect) (address : ℕ) (w : AsmWhy) → address_after effect address ≡ Err w → NoPlace effect address w
-no_place Nothing address w e = absurd cc
-no_place (Move to) address w e = absurd cc
-no_place (Define value) address w e = absurd cc
 no_place Wrong address w e = inr (sym (err_same {X = ℕ} why.Directive w e), inl refl)
-no_place (Take n even) address w e = go (nat_lt 65536 (address + n)) even (address % 2 == 0) refl refl refl e
-  where
-    go : (past t aligned : Bool) → nat_lt 65536 (address + n) ≡ past → even ≡ t → (address % 2 == 0) ≡ aligned
-        → cond past (Err why.Past) (cond (t && not aligned) (Err why.Directive) (Ok (address + n))) ≡ Err w → NoPlace (Take n even) address
-        w
-    go true t aligned f g h e' = inl (sym (err_same {X = ℕ} why.Past w e'), n, even, refl, grind (arith, nat_tests))
-    go false true false f g h e' =
-        let odd : address % 2 ≡ 1 = (let no : ¬ (address % 2 ≡ 0) = grind (arith, nat_tests) in omega (arith, no)) in
-        inr (sym (err_same {X = ℕ} why.Directive w e'), inr (n, ap (λ b. Take n b) g, odd))
-    go false true true f g h e' = absurd cc
-    go false false aligned f g h e' = absurd cc
+no_place (Take n even) address w e = grind (arith, nat_tests, err_same)
+no_place other address w e = absurd cc
 
 -- ---- the whole line
 
 content_err : (line : List ℕ) (w : AsmWhy) → content_of line ≡ Err w → w ≡ why.Lex
 unfolding content_of
-content_err line w e = go (tokens_of line) e
-  where
-    go : (o : Result (List Token) LexError) → content o ≡ Err w → w ≡ why.Lex
-    go (Ok tokens) e' = absurd cc
-    go (Err fault) e' = sym (err_same {X = List Token} why.Lex w e')
+content_err line w e = grind (arith, nat_tests, err_same)
 
 effect_err : (follows : Bool) (line : List ℕ) (symbols : NameMap) (tokens : List Token) (w : AsmWhy) → effect_in line symbols follows
     tokens ≡ Err w → NoEffect (action_of line (body_of tokens)) line symbols (arguments_in line tokens) w
@@ -457,26 +356,13 @@ name_six effect name place w e = subst (λ v. number_of v ≤ 6) (sym (name_err 
 -- a fault of the address
 address_told : (effect : Effect) (symbols : NameMap) (address : ℕ) (w : AsmWhy) → Tells (address_after effect address) w
     → Tells (at_address symbols (address_after effect address)) w
-address_told effect symbols address w h = go (address_after effect address) h
-  where
-    go : (o : OrFault ℕ) → Tells o w → Tells (at_address symbols o) w
-    go (Ok next) t = absurd t
-    go (Err v) t = t
+address_told effect symbols address w h = grind (arith, nat_tests)
 
 past_told : (n : ℕ) (even : Bool) (address : ℕ) → 65536 < address + n → address_after (Take n even) address ≡ Err why.Past
-past_told n even address h =
-    let past : nat_lt 65536 (address + n) ≡ true = grind (arith, nat_tests) in
-    ap (λ t. cond t (Err why.Past) (cond (even && not (address % 2 == 0)) (Err why.Directive) (Ok (address + n)))) past
+past_told n even address h = let past : nat_lt 65536 (address + n) ≡ true = grind (arith, nat_tests) in cc
 
 odd_told : (n address : ℕ) → address % 2 ≡ 1 → Tells (address_after (Take n true) address) why.Directive
-odd_told n address odd = go (nat_lt 65536 (address + n)) (address % 2 == 0) (let t : (address % 2 == 0) ≡ false =
-    grind (arith, nat_tests) in t)
-  where
-    go : (past aligned : Bool) → aligned ≡ false
-        → Tells (cond past (Err why.Past) (cond (true && not aligned) (Err why.Directive) (Ok (address + n)))) why.Directive
-    go true aligned e = omega arith
-    go false true e = absurd cc
-    go false false e = omega arith
+odd_told n address odd = grind (arith, nat_tests)
 
 module _ (follows : Bool) (line : List ℕ) (place : Place) where
   -- a line that can be cut into tokens
@@ -485,19 +371,11 @@ module _ (follows : Bool) (line : List ℕ) (place : Place) where
       (λ effect. applied (label_of line tokens) (first_text line (arguments_in line tokens)) effect place)) w
       → Tells (after_line follows line place) w
   unfolding after_line
-  cut_told tokens w is h =
-      subst (λ (o : OrFault Place). Tells o w)
-      (sym (ap (λ (o : OrFault (List Token)). o >>= (λ ts. effect_in line place.symbols follows ts >>=
-      (λ effect. applied (label_of line ts) (first_text line (arguments_in line ts)) effect place))) is)) h
+  cut_told tokens w is h = grind (arith, nat_tests)
 
   effect_told : (tokens : List Token) (w : AsmWhy) → content_of line ≡ Ok tokens → effect_in line place.symbols follows tokens ≡ Err w
       → Tells (after_line follows line place) w
-  effect_told tokens w is e =
-      cut_told tokens w is
-      (tells_is (effect_in line place.symbols follows tokens >>=
-      (λ effect. applied (label_of line tokens) (first_text line (arguments_in line tokens)) effect place)) w
-      (ap (λ (o : OrFault Effect). o >>= (λ effect. applied (label_of line tokens) (first_text line (arguments_in line tokens)) effect
-      place)) e))
+  effect_told tokens w is e = grind (arith, nat_tests, cut_told tokens w is, tells_is)
 
   value_told : (w : AsmWhy) → LacksValue line place.symbols w → Tells (after_line follows line place) w
   unfolding effect_in
@@ -509,76 +387,52 @@ module _ (follows : Bool) (line : List ℕ) (place : Place) where
       tokens ≡ Ok effect
       → Tells (applied (label_of line tokens) (first_text line (arguments_in line tokens)) effect place) w
       → Tells (after_line follows line place) w
-  effect_is tokens effect w is does h =
-      cut_told tokens w is
-      (subst (λ (o : OrFault Place). Tells o w)
-      (sym (ap (λ (o : OrFault Effect). o >>= (λ f. applied (label_of line tokens) (first_text line (arguments_in line tokens)) f
-      place)) does)) h)
+  effect_is tokens effect w is does h = grind (arith, nat_tests, cut_told tokens w is)
 
   -- past the label and the name
   names_passed : (label : Option (List ℕ)) (name : List ℕ) (effect : Effect) (w : AsmWhy) → 6 ≤ number_of w
       → Tells (address_after effect place.address) w → Tells (applied label name effect place) w
   unfolding applied
   names_passed label name effect w low h =
-      tells_bound (labelled label place)
-      (λ first. named effect name first >>= (λ second. at_address second.symbols (address_after effect second.address))) w
-      (λ v e. let six = label_six label place v e in omega arith)
-      (λ first e. tells_bound (named effect name first) (λ second. at_address second.symbols (address_after effect second.address)) w
-      (λ v f. let six = name_six effect name first v f in omega arith)
-      (λ second f. address_told effect second.symbols second.address w
-      (subst (λ a. Tells (address_after effect a) w) (sym (name_keeps effect name first second f ∙ label_keeps label place first e)) h)))
+      tells_bound _ (λ first. named effect name first >>= (λ second. at_address second.symbols (address_after effect second.address))) _
+      (λ v e. let six = label_six label place _ e in omega arith)
+      (λ first e. tells_bound _ (λ second. at_address second.symbols (address_after effect second.address)) _
+      (λ v f. let six = name_six effect name first _ f in omega arith) (λ second f. address_told effect second.symbols second.address w
+      (subst (λ a. Tells (address_after effect a) w) (sym (name_keeps effect name first _ f ∙ label_keeps label place _ e)) h)))
 
   twice_told : (tokens : List Token) → content_of line ≡ Ok tokens → DefinesTaken follows line place tokens
       → Tells (after_line follows line place) why.Twice
   unfolding applied
   twice_told tokens is (inl (name, label, taken)) =
-      cut_told tokens why.Twice is
-      (tells_bound (effect_in line place.symbols follows tokens)
-      (λ effect. applied (label_of line tokens) (first_text line (arguments_in line tokens)) effect place) why.Twice
-      (λ v e. let five = effect_low follows line place.symbols tokens v e in omega arith)
-      (λ effect e. tells_is (applied (label_of line tokens) (first_text line (arguments_in line tokens)) effect place) why.Twice
+      cut_told _ _ is (tells_bound _ (λ effect. applied (label_of line tokens) (first_text line (arguments_in line tokens)) effect place) _
+      (λ v e. let five = effect_low _ _ _ _ _ e in omega arith) (λ effect e. tells_is _ _
       (ap (λ (o : OrFault Place). o >>= (λ first. named effect (first_text line (arguments_in line tokens)) first >>=
       (λ second. at_address second.symbols (address_after effect second.address))))
-      (ap (λ l. labelled l place) label ∙ ap (with_symbols place.address) (taken_err name (pos place.address) place.symbols taken)))))
+      (ap (λ l. labelled l place) label ∙ ap (with_symbols place.address) (taken_err _ _ _ taken)))))
   twice_told tokens is (inr (value, does, taken)) =
       let name = first_text line (arguments_in line tokens) in
-      effect_is tokens (Define value) why.Twice is does
-      (tells_bound (labelled (label_of line tokens) place)
-      (λ first. named (Define value) name first >>= (λ second. at_address second.symbols (address_after (Define value) second.address)))
-      why.Twice
-      (λ v e. label_six (label_of line tokens) place v e)
-      (λ first e. tells_is (named (Define value) name first >>=
-      (λ second. at_address second.symbols (address_after (Define value) second.address))) why.Twice
+      effect_is _ _ _ is does (tells_bound _
+      (λ first. named (Define value) name first >>= (λ second. at_address second.symbols (address_after (Define value) second.address))) _
+      (λ v e. label_six (label_of line tokens) place _ e) (λ first e. tells_is _ _
       (ap (λ (o : OrFault Place). o >>= (λ second. at_address second.symbols (address_after (Define value) second.address)))
-      (ap (with_symbols first.address) (taken_err name value first.symbols (onto_label (label_of line tokens) place first name e taken))))))
+      (ap (with_symbols first.address) (taken_err _ _ _ (onto_label _ _ _ _ e taken))))))
 
   pub stands_told : (w : AsmWhy) → InFirstPass follows line place w → Tells (after_line follows line place) w
   unfolding after_line effect_in
-  stands_told why.Lex lex =
-      tells_is (after_line follows line place) why.Lex
-      (ap (λ (o : OrFault (List Token)). o >>= (λ ts. effect_in line place.symbols follows ts >>=
-      (λ effect. applied (label_of line ts) (first_text line (arguments_in line ts)) effect place))) lex)
-  stands_told why.Mnemonic (tokens, is, unknown) =
-      effect_told tokens why.Mnemonic is
-      (ap (λ a. effect_of a line place.symbols (arguments_in line tokens) (parts_of (arguments_in line tokens)) follows) unknown)
+  stands_told why.Lex lex = grind (arith, nat_tests, tells_is (after_line follows line place) why.Lex)
+  stands_told why.Mnemonic (tokens, is, unknown) = grind (arith, nat_tests, effect_told tokens why.Mnemonic is)
   stands_told why.Operand value = value_told why.Operand value
   stands_told why.Range value = value_told why.Range value
   stands_told why.Symbol value = value_told why.Symbol value
   stands_told why.Twice (tokens, is, taken) = twice_told tokens is taken
-  stands_told why.Overlap h = absurd h
   stands_told why.Past (tokens, is, (n, even, does, past)) =
-      effect_is tokens (Take n even) why.Past is does
-      (names_passed (label_of line tokens) (first_text line (arguments_in line tokens)) (Take n even) why.Past (omega arith)
-      (tells_is (address_after (Take n even) place.address) why.Past (past_told n even place.address past)))
+      effect_is _ _ _ is does (names_passed _ _ _ _ (omega arith) (tells_is _ _ (past_told _ _ _ past)))
   stands_told why.Directive (tokens, is, inl wrong) =
-      effect_is tokens Wrong why.Directive is wrong
-      (names_passed (label_of line tokens) (first_text line (arguments_in line tokens)) Wrong why.Directive (omega arith)
+      effect_is _ _ _ is wrong (names_passed _ _ Wrong why.Directive (omega arith)
       (tells_is (address_after Wrong place.address) why.Directive refl))
   stands_told why.Directive (tokens, is, inr (n, does, odd)) =
-      effect_is tokens (Take n true) why.Directive is does
-      (names_passed (label_of line tokens) (first_text line (arguments_in line tokens)) (Take n true) why.Directive (omega arith)
-      (odd_told n place.address odd))
-  stands_told why.Memory h = absurd h
+      effect_is _ _ _ is does (names_passed _ _ _ _ (omega arith) (odd_told _ _ odd))
+  stands_told other h = absurd h
 
   -- what the first pass makes of a line: no why stands, or the least one is told
   pub sound_line : (next : Place) → after_line follows line place ≡ Ok next → (w : AsmWhy) → ¬ InFirstPass follows line place w
@@ -586,7 +440,6 @@ module _ (follows : Bool) (line : List ℕ) (place : Place) where
 
   pub least_line : (w : AsmWhy) → after_line follows line place ≡ Err w → IsLeast (InFirstPass follows line place) w
   least_line w e = record {
-    stands = refused_stands follows line place w e;
-    least = λ v h. subst (λ (o : OrFault Place). Tells o v) e
-        (stands_told v h);
+    stands = refused_stands _ _ _ _ e;
+    least = λ v h. subst (λ (o : OrFault Place). Tells o v) e (stands_told _ h);
   }

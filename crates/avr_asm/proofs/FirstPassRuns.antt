@@ -1,9 +1,7 @@
 -- What the first pass over all lines says: they are laid out, or one has the first fault.
-use Rattle.std.proofs.Common.{◌≡◌, ℕ, suc, ◌+◌, ◌≤◌, Bool, List, [], ◌∷◌, ◌++◌, length, map, nat_lt, inl, inr, refl, sym, ◌∙◌, ap, subst}
-use Rattle.std.proofs.Common.{append_assoc, append-nil, arith}
-use Rattle.std.specs.Prelude.{Result, Ok, Err, ◌%◌, ◌==◌, ◌&&◌, true, false, not, cond}
+use Rattle.std.proofs.Common.{◌≡◌, ℕ, suc, ◌+◌, Bool, List, [], ◌∷◌, ◌++◌, length, map, nat_lt, inl, inr, refl, sym, ◌∙◌, ap, subst}
+use Rattle.std.proofs.Common.{append_assoc, append-nil, arith, Result, Ok, Err, ◌%◌, ◌==◌, ◌&&◌, true, false, not, cond, nat_cmp}
 use Rattle.std.specs.List.{list_any}
-use Rattle.std.specs.Ordering.{nat_cmp}
 use Rattle.std.specs.Cmp.Lexicographic.{slice_cmp}
 use Rattle.std.specs.FinMap.{from_entries}
 use Rattle.avr_text.specs.declared.tokens.Token.{Token}
@@ -12,7 +10,7 @@ use Rattle.avr_text.specs.declared.errors.AsmWhy.TheVariants as why
 use Rattle.avr_text.specs.Faults.{OrFault, number_of}
 use Rattle.avr_asm.specs.declared.errors.AsmError.{AsmError}
 use Rattle.avr_asm.specs.declared.first_pass.Effect.{Effect}
-use Rattle.avr_asm.specs.declared.first_pass.Effect.TheVariants.{Nothing, Move, Define, Take, Wrong}
+use Rattle.avr_asm.specs.declared.first_pass.Effect.TheVariants.{Move, Take, Wrong}
 use Rattle.avr_asm.specs.declared.layout.Place.{Place}
 use Rattle.avr_asm.specs.FirstFault.{IsLeast, Laid, end_after, end_from, names_in, names_by, place_after, InFirstPass, IsLaid, AreLaid}
 use Rattle.avr_asm.specs.FirstFault.{FirstPassFault}
@@ -25,6 +23,7 @@ use Rattle.avr_asm.proofs.FirstPassFaults.{NoPlace, no_place, refused_stands, so
 use Rattle.avr_asm.proofs.LaidLines.{LaidLine, laid_line}
 use Rattle.avr_asm.proofs.MadeMaps.{label_made, equ_made, predefined_made}
 use Rattle.avr_asm.proofs.OutcomeLemmas.{ok_same}
+use Rattle.std.proofs.lemmas.Bool.Decides.{nat_tests}
 
 -- ---- numbers of whys
 
@@ -47,11 +46,7 @@ why_back why.Memory = refl
 
 -- the least why is one
 pub same_least : (Stands : AsmWhy → Type 0) (v w : AsmWhy) → IsLeast Stands v → IsLeast Stands w → v ≡ w
-same_least Stands v w a b =
-    let low : number_of v ≤ number_of w = a.least w b.stands in
-    let high : number_of w ≤ number_of v = b.least v a.stands in
-    let same : number_of v ≡ number_of w = omega (arith, low, high) in
-    sym (why_back v) ∙ ap why_at same ∙ why_back w
+same_least Stands v w a b = grind (arith, nat_tests, why_back v, why_back w)
 
 -- ---- one line
 
@@ -76,9 +71,7 @@ names_more [] l = append-nil (names_in l)
 names_more (b ∷ bs) l = ap (λ ns. names_in b ++ ns) (names_more bs l) ∙ sym (append_assoc (names_in b) (names_by bs) (names_in l))
 
 placed_end : (effect : Effect) (address next : ℕ) → address_after effect address ≡ Ok next → next ≡ end_after effect address
-placed_end Nothing address next e = sym (ok_same address next e)
 placed_end (Move to) address next e = sym (ok_same to next e)
-placed_end (Define value) address next e = sym (ok_same address next e)
 placed_end Wrong address next e = absurd cc
 placed_end (Take n even) address next e = go (nat_lt 65536 (address + n)) (even && not (address % 2 == 0)) e
   where
@@ -86,6 +79,7 @@ placed_end (Take n even) address next e = go (nat_lt 65536 (address + n)) (even 
     go true odd e' = absurd cc
     go false true e' = absurd cc
     go false false e' = sym (ok_same (address + n) next e')
+placed_end other address next e = sym (ok_same address next e)
 
 -- the place after a line that was laid out
 past_line : (follows : Bool) (line : List ℕ) (before : List Laid) (place next : Place) (l : LaidLine follows line place next)
@@ -208,8 +202,7 @@ line_says before line k place lines a more (Err w) e = record {
   numbered = omega arith;
   laid = tt;
   fault = subst (λ p. IsLeast (InFirstPass (list_any is_instruction_line lines) line p) w)
-      (same_place before place a ∙ ap place_after (sym (append-nil before))) (least_line (list_any is_instruction_line lines) line place w
-      e);
+      (same_place _ _ a ∙ ap place_after (sym (append-nil before))) (least_line _ _ _ _ e);
 }
 line_says before line k place lines a more (Ok next) e =
     let it = laid_line (list_any is_instruction_line lines) line place next e in
@@ -283,7 +276,7 @@ all_passed before [] k place after a laid =
     }
 all_passed before (l ∷ ls) k place after a laid =
     let lines = map (λ (x : Laid). x.source) ls ++ after in
-    let here = passed before l (list_any is_instruction_line lines) place laid.0 a in
+    let here = passed _ _ _ _ laid.0 a in
     let rest = all_passed (before ++ l ∷ []) ls (k + 1) here.next after here.after laid.1 in
     let count : k + 1 + length ls ≡ k + suc (length ls) = omega arith in
     let at : place.address ≡ l.address = a.address ∙ sym laid.0.located in
@@ -292,10 +285,8 @@ all_passed before (l ∷ ls) k place after a laid =
       ends = subst (λ xs. IsAfter xs rest.next) (append_assoc before (l ∷ []) ls) rest.ends;
       goes =
           ap (λ (o : OrFault Place). at_line k o (λ next. with_address place.address (layout_from (k + 1) next lines))) here.goes
-          ∙ ap (λ (n : ℕ). with_address n (layout_from (k + 1) here.next lines)) at
-          ∙ ap (with_address l.address) rest.goes
-          ∙ front_more l.address (map (λ (x : Laid). x.address) ls) (layout_from (k + 1 + length ls) rest.next after)
-          ∙ ap (λ n. with_front (l.address ∷ map (λ (x : Laid). x.address) ls) (layout_from n rest.next after)) count;
+          ∙ ap (λ (n : ℕ). with_address n (layout_from (k + 1) here.next lines)) at ∙ ap (with_address l.address) rest.goes
+          ∙ front_more _ _ _ ∙ ap (λ n. with_front (l.address ∷ map (λ (x : Laid). x.address) ls) (layout_from n rest.next after)) count;
     }
 
 -- a line with a fault is refused for it
@@ -311,15 +302,12 @@ pub fault_laid : (lines : List (List ℕ)) (n : ℕ) (w : AsmWhy) → FirstPassF
     (record { line = n; why = w })
 unfolding layout_from
 fault_laid lines n w f =
-    let p = all_passed [] f.before 1 start (f.line ∷ f.after) begins f.laid in
+    let p = all_passed _ _ _ _ _ begins f.laid in
     let follows = list_any is_instruction_line f.after in
-    let refused = fault_refused follows f.line p.next w (subst (λ q. IsLeast (InFirstPass follows f.line q) w)
-    (sym (same_place f.before p.next p.ends)) f.fault) in
+    let refused = fault_refused _ _ _ _ (subst (λ q. IsLeast (InFirstPass follows f.line q) w) (sym (same_place _ _ p.ends)) f.fault) in
     let count : 1 + length f.before ≡ n = omega (arith, f.numbered) in
-    ap layout_of f.cut ∙ p.goes
-    ∙ ap (λ (o : OrFault Place). with_front (map (λ (x : Laid). x.address) f.before)
-    (at_line (1 + length f.before) o (λ next. with_address p.next.address (layout_from (1 + length f.before + 1) next f.after))))
-    refused
+    ap layout_of f.cut ∙ p.goes ∙ ap (λ (o : OrFault Place). with_front (map (λ (x : Laid). x.address) f.before)
+    (at_line (1 + length f.before) o (λ next. with_address p.next.address (layout_from (1 + length f.before + 1) next f.after)))) refused
     ∙ ap (λ m. Err (record { line = m; why = w })) count
 
 -- lines of which none has a fault are laid out

@@ -1,24 +1,21 @@
 -- What a line does to addresses and names stays so where more names have values.
-use Rattle.std.proofs.Common.{◌≡◌, ℕ, Bool, true, false, ◌&&◌, cond, List, [], ◌∷◌, ◌++◌, refl, sym, ◌∙◌, ap}
-use Rattle.std.specs.Prelude.{Option, None, Some, Ok, Err, ℤ, pos}
-use Rattle.std.specs.Ordering.{nat_cmp, eq_by_cmp}
+use Rattle.std.proofs.Common.{◌≡◌, ℕ, Bool, List, [], ◌∷◌, ◌++◌, sym, ◌∙◌, ap, arith, Option, None, Some, Ok, Err, ℤ, pos, nat_cmp}
 use Rattle.std.specs.Cmp.Lexicographic.{slice_cmp, nat_list_cmp_total}
 use Rattle.std.specs.FinMap.{get, find, from_entries, get-from_entries}
 use Rattle.avr_text.specs.declared.tokens.Token.{Token}
 use Rattle.avr_text.specs.Arithmetic as text
 use Rattle.avr_text.specs.Names.{NameMap, Keeps}
-use Rattle.avr_text.specs.Reading.{value_of, is_mark_of}
+use Rattle.avr_text.specs.Reading.{value_of}
 use Rattle.avr_asm.specs.declared.directives.Directive.{Directive}
 use Rattle.avr_asm.specs.declared.directives.Directive.TheVariants as directive
 use Rattle.avr_asm.specs.declared.first_pass.Effect.{Effect}
-use Rattle.avr_asm.specs.declared.first_pass.Effect.TheVariants.{Wrong}
 use Rattle.avr_asm.specs.declared.lines.Action.{Action}
 use Rattle.avr_asm.specs.declared.lines.Action.TheVariants as action
-use Rattle.avr_text.specs.Faults.{OrFault}
-use Rattle.avr_asm.specs.Layout.{moved, set, org_effect, equ_effect, directive_effect, effect_of, effect_in, arguments_in}
-use Rattle.avr_asm.specs.Lines.{is_name, body_of, action_of, parts_of}
-use Rattle.avr_text.specs.Operands.{line_fault, expression, within, number}
+use Rattle.avr_asm.specs.Layout.{org_effect, equ_effect, directive_effect, effect_of, effect_in, arguments_in}
+use Rattle.avr_asm.specs.Lines.{body_of, action_of, parts_of}
+use Rattle.avr_text.specs.Operands.{line_fault, expression, number}
 use Rattle.avr_asm.proofs.OutcomeLemmas.{ok_same}
+use Rattle.std.proofs.lemmas.Bool.Decides.{nat_tests}
 
 abbrev pub ValuesStay : Type 0
 ValuesStay = (text : List ℕ) (tokens : List Token) (symbols more : NameMap) (dot : Option ℤ) (v : ℤ) → Keeps symbols more → value_of text
@@ -31,66 +28,33 @@ module _ (stay : ValuesStay) (symbols more : NameMap) (keeps : Keeps symbols mor
 
   expression_stays : (line : List ℕ) (dot : Option ℤ) (tokens : List Token) (v : ℤ) → expression line symbols dot tokens ≡ Ok v
       → expression line more dot tokens ≡ Ok v
-  expression_stays line dot tokens v e =
-      ap line_fault (stay line tokens symbols more dot v keeps (no_fault (value_of line tokens symbols dot) v e))
+  expression_stays line dot tokens v e = cc (stay line tokens symbols more dot v keeps (no_fault (value_of line tokens symbols dot) v e))
 
   number_stays : (low high : ℤ) (line : List ℕ) (tokens : List Token) (v : ℤ) → number low high line symbols tokens ≡ Ok v → number low high
       line more tokens ≡ Ok v
-  number_stays low high line tokens v e = by_case (expression line symbols None tokens) refl e
-    where
-      by_case : (o : OrFault ℤ) → expression line symbols None tokens ≡ o → within low high o ≡ Ok v → within low high
-          (expression line more None tokens) ≡ Ok v
-      by_case (Ok x) is e' = ap (within low high) (expression_stays line None tokens x is) ∙ e'
-      by_case (Err why) is e' = absurd cc
+  number_stays low high line tokens v e = grind (arith, nat_tests, expression_stays line None tokens)
 
   org_stays : (line : List ℕ) (parts : List (List Token)) (effect : Effect) → org_effect line symbols parts ≡ Ok effect → org_effect line
       more parts ≡ Ok effect
-  org_stays line [] effect e = e
-  org_stays line (p ∷ []) effect e = by_case (number (pos 0) (pos 65536) line symbols p) refl e
-    where
-      by_case : (o : OrFault ℤ) → number (pos 0) (pos 65536) line symbols p ≡ o → moved o ≡ Ok effect
-          → moved (number (pos 0) (pos 65536) line more p) ≡ Ok effect
-      by_case (Ok x) is e' = ap moved (number_stays (pos 0) (pos 65536) line p x is) ∙ e'
-      by_case (Err why) is e' = absurd cc
-  org_stays line (p ∷ q ∷ rest) effect e = e
+  org_stays line (p ∷ []) effect e = grind (arith, nat_tests, number_stays (pos 0) (pos 65536) line p)
+  org_stays line other effect e = e
 
   equ_stays : (line : List ℕ) (arguments : List Token) (effect : Effect) → equ_effect line symbols arguments ≡ Ok effect → equ_effect line
       more arguments ≡ Ok effect
-  equ_stays line [] effect e = e
-  equ_stays line (n ∷ []) effect e = e
-  equ_stays line (n ∷ m ∷ rest) effect e = by_case (is_name n.kind && is_mark_of 61 m.kind) e
-    where
-      valued : (o : OrFault ℤ) → expression line symbols None rest ≡ o → set o ≡ Ok effect → set (expression line more None rest) ≡ Ok
-          effect
-      valued (Ok x) is e' = ap set (expression_stays line None rest x is) ∙ e'
-      valued (Err why) is e' = absurd cc
-
-      by_case : (t : Bool) → cond t (set (expression line symbols None rest)) (Ok Wrong) ≡ Ok effect
-          → cond t (set (expression line more None rest)) (Ok Wrong) ≡ Ok effect
-      by_case true e' = valued (expression line symbols None rest) refl e'
-      by_case false e' = e'
+  equ_stays line (n ∷ m ∷ rest) effect e = grind (arith, nat_tests, expression_stays line None rest)
+  equ_stays line other effect e = e
 
   directive_stays : (d : Directive) (line : List ℕ) (arguments : List Token) (parts : List (List Token)) (follows : Bool) (effect : Effect)
       → directive_effect d line symbols arguments parts follows ≡ Ok effect → directive_effect d line more arguments parts follows ≡ Ok
       effect
   directive_stays directive.Org line arguments parts follows effect e = org_stays line parts effect e
   directive_stays directive.Equ line arguments parts follows effect e = equ_stays line arguments effect e
-  directive_stays directive.Db line arguments parts follows effect e = e
-  directive_stays directive.Dw line arguments parts follows effect e = e
-  directive_stays directive.Start line arguments parts follows effect e = e
-  directive_stays directive.Lines line arguments parts follows effect e = e
-  directive_stays directive.Half line arguments parts follows effect e = e
-  directive_stays directive.Stack line arguments parts follows effect e = e
-  directive_stays directive.Cell line arguments parts follows effect e = e
-  directive_stays directive.Fact line arguments parts follows effect e = e
+  directive_stays other line arguments parts follows effect e = e
 
   action_stays : (a : Action) (line : List ℕ) (arguments : List Token) (parts : List (List Token)) (follows : Bool) (effect : Effect)
       → effect_of a line symbols arguments parts follows ≡ Ok effect → effect_of a line more arguments parts follows ≡ Ok effect
-  action_stays action.Empty line arguments parts follows effect e = e
-  action_stays action.Unknown line arguments parts follows effect e = e
-  action_stays action.NoDirective line arguments parts follows effect e = e
-  action_stays (action.Instruction name) line arguments parts follows effect e = e
   action_stays (action.Directive d) line arguments parts follows effect e = directive_stays d line arguments parts follows effect e
+  action_stays other line arguments parts follows effect e = e
 
   pub effect_stays : (line : List ℕ) (follows : Bool) (tokens : List Token) (effect : Effect) → effect_in line symbols follows tokens ≡ Ok
       effect → effect_in line more follows tokens ≡ Ok effect
@@ -102,12 +66,7 @@ module _ (stay : ValuesStay) (symbols more : NameMap) (keeps : Keeps symbols mor
 found_first : (q : List ℕ) (v : ℤ) (xs ys : List (List ℕ × ℤ)) → find (slice_cmp nat_cmp) q xs ≡ Some v → find (slice_cmp nat_cmp) q
     (xs ++ ys) ≡ Some v
 found_first q v [] ys e = absurd cc
-found_first q v (x ∷ xs) ys e = by_case (eq_by_cmp (slice_cmp nat_cmp) q x.0) (found_first q v xs ys) e
-  where
-    by_case : (b : Bool) → (find (slice_cmp nat_cmp) q xs ≡ Some v → find (slice_cmp nat_cmp) q (xs ++ ys) ≡ Some v) → cond b (Some x.1)
-        (find (slice_cmp nat_cmp) q xs) ≡ Some v → cond b (Some x.1) (find (slice_cmp nat_cmp) q (xs ++ ys)) ≡ Some v
-    by_case true rest e' = e'
-    by_case false rest e' = rest e'
+found_first q v (x ∷ xs) ys e = grind (arith, nat_tests, found_first q v xs ys)
 
 pub front_kept : (xs ys : List (List ℕ × ℤ)) (m : NameMap) → m ≡ from_entries (xs ++ ys) → Keeps (from_entries xs) m
 front_kept xs ys m is name v e =

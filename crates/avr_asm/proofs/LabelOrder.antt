@@ -1,9 +1,8 @@
 -- A stable sort of labels by their addresses gives one list.
-use Rattle.std.proofs.Common.{◌≡◌, ◌∙◌, sym, ap, refl, subst, arith, ℕ, zero, suc, ◌<◌, ◌≤◌, ◌==◌, ◌&&◌, not, Bool, true, false, cond}
-use Rattle.std.proofs.Common.{List, [], ◌∷◌, length, get_or, nat_le}
+use Rattle.std.proofs.Common.{◌≡◌, ◌∙◌, sym, ap, refl, subst, arith, ℕ, zero, suc, ◌<◌, ◌≤◌, ◌==◌, ◌&&◌, not, Bool, true, false, cond, List}
+use Rattle.std.proofs.Common.{[], ◌∷◌, length, get_or, nat_le, nat_cmp, is_lt}
 use Rattle.std.specs.List.{filter}
 use Rattle.std.specs.List.Sorted.{IsNonDecreasingBy, IsStableByKey, ties}
-use Rattle.std.specs.Ordering.{nat_cmp, is_lt}
 use Rattle.std.proofs.lemmas.Bool.Decides.{nat_tests}
 use Rattle.avr_asm.specs.declared.labels.Label.{Label}
 use Rattle.avr_asm.specs.Labels.{put_in_order, by_address}
@@ -28,12 +27,7 @@ same_from : (n m : ℕ) → (m == n) ≡ true → m ≡ n
 same_from n m e = grind (arith, nat_tests)
 
 least : (n m : ℕ) → (n < m → ⊥) → (m < n → ⊥) → n ≡ m
-least n m a b = by_tests (nat_le n m) (nat_le m n) refl refl
-  where
-    by_tests : (s t : Bool) → nat_le n m ≡ s → nat_le m n ≡ t → n ≡ m
-    by_tests false t e f = absurd (b (grind (arith, nat_tests, e)))
-    by_tests true false e f = absurd (a (grind (arith, nat_tests, f)))
-    by_tests true true e f = grind (arith, nat_tests, e, f)
+least n m a b = grind (arith, nat_tests, nat_le n m, nat_le m n)
 
 tie_is : (n m : ℕ) → (not (is_lt (nat_cmp n m)) && not (is_lt (nat_cmp m n))) ≡ (m == n)
 tie_is n m = grind (arith, nat_tests)
@@ -64,12 +58,7 @@ does_not_fall low (l ∷ ls) r (suc i) (suc j) d h k = does_not_fall l.address l
 
 put_rises : (low : ℕ) (l : Label) (labels : List Label) → low ≤ l.address → RiseFrom low labels → RiseFrom low (put_in_order l labels)
 put_rises low l [] h r = (h, tt)
-put_rises low l (m ∷ ms) h r = by_test (nat_le l.address m.address) refl (λ after. put_rises m.address l ms after r.1)
-  where
-    by_test : (t : Bool) → nat_le l.address m.address ≡ t → (m.address ≤ l.address → RiseFrom m.address (put_in_order l ms))
-        → RiseFrom low (cond t (l ∷ m ∷ ms) (m ∷ put_in_order l ms))
-    by_test true e rest = (h, (grind (arith, nat_tests, e), r.1))
-    by_test false e rest = (r.0, rest (grind (arith, nat_tests, e)))
+put_rises low l (m ∷ ms) h r = grind (arith, nat_tests, nat_le l.address m.address, put_rises m.address l ms)
 
 pub order_rises : (labels : List Label) → RiseFrom 0 (by_address labels)
 unfolding by_address
@@ -78,27 +67,11 @@ order_rises (l ∷ ls) = put_rises 0 l (by_address ls) (omega arith) (order_rise
 
 swapped : (n : ℕ) (l m : Label) (ms : List Label) → m.address < l.address
     → filter (has_address n) (m ∷ l ∷ ms) ≡ filter (has_address n) (l ∷ m ∷ ms)
-swapped n l m ms less = by_tests (has_address n l) (has_address n m) refl refl
-  where
-    by_tests : (s t : Bool) → has_address n l ≡ s → has_address n m ≡ t
-        → cond t (m ∷ cond s (l ∷ filter (has_address n) ms) (filter (has_address n) ms)) (cond s (l ∷ filter (has_address n) ms)
-        (filter (has_address n) ms))
-        ≡ cond s (l ∷ cond t (m ∷ filter (has_address n) ms) (filter (has_address n) ms)) (cond t (m ∷ filter (has_address n) ms)
-        (filter (has_address n) ms))
-    by_tests true true e f = absurd (omega (arith, same_from n l.address e, same_from n m.address f, less))
-    by_tests true false e f = refl
-    by_tests false t e f = refl
+swapped n l m ms less = grind (arith, nat_tests, same_from n l.address, same_from n m.address)
 
 put_keeps : (n : ℕ) (l : Label) (labels : List Label) → filter (has_address n) (put_in_order l labels) ≡ filter (has_address n) (l ∷ labels)
 put_keeps n l [] = refl
-put_keeps n l (m ∷ ms) = by_test (nat_le l.address m.address) refl (put_keeps n l ms)
-  where
-    by_test : (t : Bool) → nat_le l.address m.address ≡ t → filter (has_address n) (put_in_order l ms) ≡ filter (has_address n) (l ∷ ms)
-        → filter (has_address n) (cond t (l ∷ m ∷ ms) (m ∷ put_in_order l ms)) ≡ filter (has_address n) (l ∷ m ∷ ms)
-    by_test true e rest = refl
-    by_test false e rest =
-        ap (λ xs. cond (has_address n m) (m ∷ xs) xs) rest
-        ∙ swapped n l m ms (grind (arith, nat_tests, e))
+put_keeps n l (m ∷ ms) = grind (arith, nat_tests, nat_le l.address m.address, put_keeps n l ms, swapped n l m ms)
 
 pub order_keeps : (n : ℕ) (labels : List Label) → filter (has_address n) (by_address labels) ≡ filter (has_address n) labels
 unfolding by_address
@@ -109,19 +82,14 @@ order_keeps n (l ∷ ls) = put_keeps n l (by_address ls) ∙ ap (λ xs. cond (ha
 
 none_below : (n low : ℕ) (labels : List Label) → n < low → RiseFrom low labels → filter (has_address n) labels ≡ []
 none_below n low [] h r = refl
-none_below n low (l ∷ ls) h r =
-    ap (λ b. cond b (l ∷ filter (has_address n) ls) (filter (has_address n) ls)) (differs n l.address (omega (arith, h, r.0)))
-    ∙ none_below n l.address ls (omega (arith, h, r.0)) r.1
+none_below n low (l ∷ ls) h r = cc (differs n l.address (omega (arith, h, r.0)), none_below n l.address ls (omega (arith, h, r.0)) r.1)
 
 first_there : (l : Label) (labels : List Label) → filter (has_address l.address) (l ∷ labels) ≡ l ∷ filter (has_address l.address) labels
-first_there l labels =
-    ap (λ b. cond b (l ∷ filter (has_address l.address) labels) (filter (has_address l.address) labels)) (same_is l.address)
+first_there l labels = cc (same_is l.address)
 
 not_earlier : (low : ℕ) (y : Label) (ys zs : List Label) → RiseFrom low zs
     → filter (has_address y.address) (y ∷ ys) ≡ filter (has_address y.address) zs → y.address < low → ⊥
-not_earlier low y ys zs r e h =
-    let found : y ∷ filter (has_address y.address) ys ≡ [] = sym (first_there y ys) ∙ e ∙ none_below y.address low zs h r in
-    absurd (cc)
+not_earlier low y ys zs r e h = grind (arith, nat_tests, first_there y ys, none_below y.address low zs h r)
 
 abbrev tail_of : List Label → List Label
 tail_of [] = []
@@ -129,18 +97,7 @@ tail_of (l ∷ ls) = ls
 
 rest_same : (n : ℕ) (y z : Label) (ys zs : List Label) → y ≡ z
     → filter (has_address n) (y ∷ ys) ≡ filter (has_address n) (z ∷ zs) → filter (has_address n) ys ≡ filter (has_address n) zs
-rest_same n y z ys zs same e = by_test (has_address n z) (ap (has_address n) same) refl
-  where
-    by_test : (t : Bool) → has_address n y ≡ has_address n z → has_address n z ≡ t → filter (has_address n) ys ≡ filter (has_address n) zs
-    by_test true f g = ap tail_of (
-        sym (ap (λ b. cond b (y ∷ filter (has_address n) ys) (filter (has_address n) ys)) (f ∙ g))
-        ∙ e
-        ∙ ap (λ b. cond b (z ∷ filter (has_address n) zs) (filter (has_address n) zs)) g
-        )
-    by_test false f g =
-        sym (ap (λ b. cond b (y ∷ filter (has_address n) ys) (filter (has_address n) ys)) (f ∙ g))
-        ∙ e
-        ∙ ap (λ b. cond b (z ∷ filter (has_address n) zs) (filter (has_address n) zs)) g
+rest_same n y z ys zs same e = grind (arith, nat_tests)
 
 one_order : (low : ℕ) (ys zs : List Label) → RiseFrom low ys → RiseFrom low zs
     → ((n : ℕ) → filter (has_address n) ys ≡ filter (has_address n) zs) → ys ≡ zs

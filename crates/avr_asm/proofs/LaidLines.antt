@@ -1,7 +1,6 @@
 -- A line that the first pass laid out: its tokens, what it does, and the place after it.
-use Rattle.std.proofs.Common.{◌≡◌, ℕ, ◌+◌, ◌*◌, ◌%◌, Bool, true, false, ◌&&◌, not, cond, List, [], ◌∷◌, nat_lt, refl, sym, ◌∙◌, ap, subst}
-use Rattle.std.proofs.Common.{arith}
-use Rattle.std.specs.Prelude.{Option, None, Some, Result, Ok, Err, ◌==◌, pos}
+use Rattle.std.proofs.Common.{◌≡◌, ℕ, ◌+◌, ◌*◌, ◌%◌, Bool, true, List, [], ◌∷◌, refl, sym, ◌∙◌, ap, subst, arith}
+use Rattle.std.specs.Prelude.{Option, None, Some, Result, Ok, Err, pos}
 use Rattle.std.specs.List.{list_any}
 use Rattle.std.proofs.lemmas.Bool.Decides.{nat_tests}
 use Rattle.avr_text.specs.declared.tokens.Token.{Token}
@@ -9,16 +8,15 @@ use Rattle.avr_text.specs.Names.{NameMap}
 use Rattle.avr_asm.specs.declared.errors.AsmError.{AsmError}
 use Rattle.avr_text.specs.declared.errors.AsmWhy.TheVariants as why
 use Rattle.avr_asm.specs.declared.first_pass.Effect.{Effect}
-use Rattle.avr_asm.specs.declared.first_pass.Effect.TheVariants.{Nothing, Move, Define, Take, Wrong}
+use Rattle.avr_asm.specs.declared.first_pass.Effect.TheVariants.{Define, Take}
 use Rattle.avr_asm.specs.declared.layout.Place.{Place}
 use Rattle.avr_asm.specs.declared.lines.Action.{Action}
 use Rattle.avr_asm.specs.declared.lines.Action.TheVariants as action
 use Rattle.avr_text.specs.Faults.{OrFault, ◌>>=◌}
 use Rattle.avr_asm.specs.Layout.{Layout, with_symbols, defined, labelled, named, at_address, address_after, applied, arguments_in}
-use Rattle.avr_asm.specs.Layout.{effect_of}
-use Rattle.avr_asm.specs.Layout.{effect_in, after_line, is_instruction, is_instruction_in, is_instruction_line, with_address, at_line}
-use Rattle.avr_asm.specs.Layout.{layout_from}
-use Rattle.avr_asm.specs.Lines.{content_of, label_of, body_of, action_of, parts_of, first_text}
+use Rattle.avr_asm.specs.Layout.{effect_of, effect_in, after_line, is_instruction, is_instruction_in, is_instruction_line, with_address}
+use Rattle.avr_asm.specs.Layout.{at_line, layout_from}
+use Rattle.avr_asm.specs.Lines.{content_of, label_of, body_of, action_of, first_text}
 use Rattle.avr_text.specs.Mnemonics.{words_of}
 use Rattle.avr_asm.proofs.OutcomeLemmas.{ok_same, bound}
 use Rattle.avr_asm.proofs.Decoding.{EachEven}
@@ -48,10 +46,7 @@ label_keeps (Some name) place next e = with_symbols_keeps place.address (defined
 
 pub name_keeps : (effect : Effect) (name : List ℕ) (place next : Place) → named effect name place ≡ Ok next → next.address ≡ place.address
 name_keeps (Define value) name place next e = with_symbols_keeps place.address (defined name value place.symbols) next e
-name_keeps Nothing name place next e = let same : place ≡ next = ok_same place next e in sym (ap (λ (p : Place). p.address) same)
-name_keeps (Move to) name place next e = let same : place ≡ next = ok_same place next e in sym (ap (λ (p : Place). p.address) same)
-name_keeps (Take bytes even) name place next e = let same : place ≡ next = ok_same place next e in sym (ap (λ (p : Place). p.address) same)
-name_keeps Wrong name place next e = let same : place ≡ next = ok_same place next e in sym (ap (λ (p : Place). p.address) same)
+name_keeps other name place next e = let same : place ≡ next = ok_same place next e in sym (ap (λ (p : Place). p.address) same)
 
 at_address_ok : (symbols : NameMap) (o : OrFault ℕ) (next : Place) → at_address symbols o ≡ Ok next → (o ≡ Ok next.address)
     × (next.symbols ≡ symbols)
@@ -65,17 +60,15 @@ pub laid_line : (follows : Bool) (line : List ℕ) (place next : Place) → afte
 unfolding after_line applied
 laid_line follows line place next e =
     let name : List Token → List ℕ = λ tokens. first_text line (arguments_in line tokens) in
-    let t = bound (content_of line) (λ tokens. effect_in line place.symbols follows tokens >>=
-    (λ effect. applied (label_of line tokens) (first_text line (arguments_in line tokens)) effect place)) next e in
-    let f = bound (effect_in line place.symbols follows t.0)
-    (λ effect. applied (label_of line t.0) (first_text line (arguments_in line t.0)) effect place) next t.2 in
-    let a = bound (labelled (label_of line t.0) place) (λ first. named f.0 (first_text line (arguments_in line t.0)) first >>=
-    (λ second. at_address second.symbols (address_after f.0 second.address))) next f.2 in
-    let b = bound (named f.0 (first_text line (arguments_in line t.0)) a.0)
-    (λ second. at_address second.symbols (address_after f.0 second.address)) next a.2 in
-    let c = at_address_ok b.0.symbols (address_after f.0 b.0.address) next b.2 in
-    let first_at = label_keeps (label_of line t.0) place a.0 a.1 in
-    let second_at = name_keeps f.0 (first_text line (arguments_in line t.0)) a.0 b.0 b.1 ∙ first_at in
+    let t = bound _ (λ tokens. effect_in line place.symbols follows tokens >>=
+    (λ effect. applied (label_of line tokens) (first_text line (arguments_in line tokens)) effect place)) _ e in
+    let f = bound _ (λ effect. applied (label_of line t.0) (first_text line (arguments_in line t.0)) effect place) _ t.2 in
+    let a = bound _ (λ first. named f.0 (first_text line (arguments_in line t.0)) first >>=
+    (λ second. at_address second.symbols (address_after f.0 second.address))) _ f.2 in
+    let b = bound _ (λ second. at_address second.symbols (address_after f.0 second.address)) _ a.2 in
+    let c = at_address_ok _ _ _ b.2 in
+    let first_at = label_keeps (label_of line t.0) place _ a.1 in
+    let second_at = name_keeps f.0 (first_text line (arguments_in line t.0)) a.0 _ b.1 ∙ first_at in
     record {
       tokens = t.0;
       is_content = t.1;
@@ -110,8 +103,7 @@ with_address_ok : (address : ℕ) (o : Result Layout AsmError) (layout : Layout)
 with_address_ok address (Ok rest) layout e = (
   rest,
   refl,
-  ok_same (record { addresses = address ∷ rest.addresses; symbols = rest.symbols })
-      layout e,
+  ok_same _ _ e,
 )
 with_address_ok address (Err fault) layout e = absurd cc
 
@@ -119,12 +111,11 @@ pub laid_lines : (k : ℕ) (place : Place) (line : List ℕ) (lines : List (List
     layout → LaidLines k place line lines layout
 unfolding layout_from
 laid_lines k place line lines layout e =
-    let here = at_line_laid k (after_line (list_any is_instruction_line lines) line place)
-    (λ next. with_address place.address (layout_from (k + 1) next lines)) layout e in
-    let rest = with_address_ok place.address (layout_from (k + 1) here.0 lines) layout here.2 in
+    let here = at_line_laid _ _ (λ next. with_address place.address (layout_from (k + 1) next lines)) _ e in
+    let rest = with_address_ok _ _ _ here.2 in
     record {
       next = here.0;
-      here = laid_line (list_any is_instruction_line lines) line place here.0 here.1;
+      here = laid_line _ _ _ _ here.1;
       rest = rest.0;
       is_rest = rest.1;
       addresses = sym (ap (λ (l : Layout). l.addresses) rest.2);
@@ -140,30 +131,19 @@ no_lines k place layout e = ok_same (record { addresses = []; symbols = place.sy
 takes_even : (a : Action) (line : List ℕ) (symbols : NameMap) (arguments : List Token) (parts : List (List Token)) (follows : Bool)
     (effect : Effect)
     → is_instruction a ≡ true → effect_of a line symbols arguments parts follows ≡ Ok effect → (n : ℕ) × (Take n true ≡ effect)
-takes_even action.Empty line symbols arguments parts follows effect is e = absurd cc
-takes_even action.Unknown line symbols arguments parts follows effect is e = absurd cc
-takes_even action.NoDirective line symbols arguments parts follows effect is e = absurd cc
-takes_even (action.Directive d) line symbols arguments parts follows effect is e = absurd cc
-takes_even (action.Instruction m) line symbols arguments parts follows effect is e =
-    (2 * words_of m, ok_same (Take (2 * words_of m) true) effect e)
+takes_even (action.Instruction m) line symbols arguments parts follows effect is e = (2 * words_of m, ok_same _ _ e)
+takes_even other line symbols arguments parts follows effect is e = absurd cc
 
 even_placed : (n address next : ℕ) → address_after (Take n true) address ≡ Ok next → address % 2 ≡ 0
-even_placed n address next e = by_case (nat_lt 65536 (address + n)) (address % 2 == 0) refl e
-  where
-    by_case : (past even : Bool) → (address % 2 == 0) ≡ even → cond past (Err why.Past)
-        (cond (true && not even) (Err why.Directive) (Ok (address + n))) ≡ Ok next → address % 2 ≡ 0
-    by_case true even is e' = absurd cc
-    by_case false false is e' = absurd cc
-    by_case false true is e' = grind (arith, nat_tests)
+even_placed n address next e = grind (arith, nat_tests)
 
 even_here : (follows : Bool) (line : List ℕ) (place next : Place) → LaidLine follows line place next → is_instruction_line line ≡ true
     → place.address % 2 ≡ 0
 unfolding is_instruction_line effect_in
 even_here follows line place next l is =
     let here : is_instruction (action_of line (body_of l.tokens)) ≡ true = sym (ap (is_instruction_in line) l.is_content) ∙ is in
-    let takes = takes_even (action_of line (body_of l.tokens)) line place.symbols (arguments_in line l.tokens)
-    (parts_of (arguments_in line l.tokens)) follows l.effect here l.is_effect in
-    even_placed takes.0 place.address next.address (ap (λ effect. address_after effect place.address) takes.1 ∙ l.is_placed)
+    let takes = takes_even _ _ _ _ _ _ _ here l.is_effect in
+    even_placed _ _ _ (ap (λ effect. address_after effect place.address) takes.1 ∙ l.is_placed)
 
 pub each_even : (k : ℕ) (place : Place) (lines : List (List ℕ)) (layout : Layout) → layout_from k place lines ≡ Ok layout → EachEven lines
     layout.addresses

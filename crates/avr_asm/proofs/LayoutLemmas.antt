@@ -13,7 +13,7 @@ use Rattle.avr_text.specs.declared.errors.AsmWhy.TheVariants.{Memory}
 use Rattle.avr_asm.specs.declared.layout.Place.{Place}
 use Rattle.avr_asm.specs.declared.first_pass.Effect.{Effect}
 use Rattle.avr_asm.specs.declared.lines.Action.{Action}
-use Rattle.avr_text.specs.Faults.{OrFault, ◌>>=◌}
+use Rattle.avr_text.specs.Faults.{OrFault}
 use Rattle.avr_asm.specs.Lines.{content_of, label_of, body_of, action_of, arguments_of, first_text}
 use Rattle.avr_asm.specs.Layout.{Layout, with_address, at_line, layout_from, after_line, is_instruction_line, IsLast}
 use Rattle.avr_asm.specs.Layout.{applied, arguments_in, effect_in}
@@ -25,8 +25,7 @@ with_addresses front (Err fault) = Err fault
 
 with_more : (front : List ℕ) (a : ℕ) (r : Result Layout AsmError) → with_addresses (front ++ a ∷ []) r ≡ with_addresses front
     (with_address a r)
-with_more front a (Ok layout) = ap (λ addresses. Ok (record { addresses = addresses; symbols = layout.symbols }))
-    (append_assoc front (a ∷ []) layout.addresses)
+with_more front a (Ok layout) = cc (append_assoc front (a ∷ []) layout.addresses)
 with_more front a (Err fault) = refl
 
 line_there : (k i : ℕ) (place : Place) (lines : List (List ℕ)) (line : List ℕ) → i < length lines → line ≡ get_or lines i [] → layout_from k
@@ -43,14 +42,7 @@ pub more_lines : (i : ℕ) (place next : Place) (lines : List (List ℕ)) (line 
     → with_addresses more (layout_from (i + 1 + 1) next (drop (i + 1) lines)) ≡ with_addresses front
     (layout_from (i + 1) place (drop i lines))
 more_lines i place next lines line follows front more h e is_follows is_next is_more =
-    let there = line_there (i + 1) i place lines line h e in
-    let step : after_line (list_any is_instruction_line (drop (i + 1) lines)) line place ≡ Ok next = ap (λ f. after_line f line place)
-    (sym is_follows) ∙ is_next in
-    ap (λ xs. with_addresses xs (layout_from (i + 1 + 1) next (drop (i + 1) lines))) is_more
-    ∙ with_more front place.address (layout_from (i + 1 + 1) next (drop (i + 1) lines))
-    ∙ sym (ap (with_addresses front)
-    (there ∙ ap (λ (o : OrFault Place). at_line (i + 1) o
-    (λ n. with_address place.address (layout_from (i + 1 + 1) n (drop (i + 1) lines)))) step))
+    grind (arith, nat_tests, line_there (i + 1) i place lines line h e, with_more front place.address)
 
 -- a line with a fault
 pub faulty_line : (i : ℕ) (place : Place) (lines : List (List ℕ)) (line : List ℕ) (follows : Bool) (front : List ℕ) (why : AsmWhy)
@@ -58,20 +50,13 @@ pub faulty_line : (i : ℕ) (place : Place) (lines : List (List ℕ)) (line : Li
     → after_line follows line place ≡ Err why → with_addresses front (layout_from (i + 1) place (drop i lines)) ≡ Err
     (record { line = i + 1; why = why })
 faulty_line i place lines line follows front why h e is_follows is_fault =
-    let there = line_there (i + 1) i place lines line h e in
-    let step : after_line (list_any is_instruction_line (drop (i + 1) lines)) line place ≡ Err why = ap (λ f. after_line f line place)
-    (sym is_follows) ∙ is_fault in
-    ap (with_addresses front) (there
-    ∙ ap (λ (o : OrFault Place). at_line (i + 1) o (λ n. with_address place.address (layout_from (i + 1 + 1) n (drop (i + 1) lines))))
-    step)
+    grind (arith, nat_tests, line_there (i + 1) i place lines line h e)
 
 -- no line is left
 pub last_line : (k i : ℕ) (place : Place) (lines : List (List ℕ)) (front : List ℕ) → length lines ≤ i → with_addresses front
     (layout_from k place (drop i lines)) ≡ Ok (record { addresses = front; symbols = place.symbols })
 unfolding layout_from
-last_line k i place lines front h =
-    ap (λ ls. with_addresses front (layout_from k place ls)) (drop_all i lines h)
-    ∙ ap (λ addresses. Ok (record { addresses = addresses; symbols = place.symbols })) (append-nil front)
+last_line k i place lines front h = cc (drop_all i lines h, append-nil front)
 
 -- which lines are followed by an instruction's
 any_here : (f : List ℕ → Bool) (lines : List (List ℕ)) (i : ℕ) → i < length lines → f (get_or lines i []) ≡ true
@@ -79,34 +64,24 @@ any_here : (f : List ℕ → Bool) (lines : List (List ℕ)) (i : ℕ) → i < l
 any_here f lines i h e = rw (drop-cons lines i [] h) (ap (λ b. b || list_any f (drop (suc i) lines)) e)
 
 any_before : (f : List ℕ → Bool) (n : ℕ) (lines : List (List ℕ)) → list_any f (drop n lines) ≡ true → list_any f lines ≡ true
-any_before f zero lines e = e
-any_before f (suc n) [] e = e
 any_before f (suc n) (x ∷ xs) e = elim (f x) as (λ b. (b || list_any f xs) ≡ true) [ true ↦ refl | false ↦ any_before f n xs e ]
+any_before f other lines e = e
 
 none_after : (f : List ℕ → Bool) (n : ℕ) (lines : List (List ℕ)) → list_any f lines ≡ false → list_any f (drop n lines) ≡ false
-none_after f n lines e = by_case (list_any f (drop n lines)) refl
-  where
-    by_case : (b : Bool) → list_any f (drop n lines) ≡ b → b ≡ false
-    by_case false e' = refl
-    by_case true e' = absurd (let t : list_any f lines ≡ true = any_before f n lines e' in cc)
+none_after f n lines e = grind (arith, nat_tests, any_before f n lines)
 
 pub is_last : (lines : List (List ℕ)) (i : ℕ) → i < length lines → is_instruction_line (get_or lines i []) ≡ true
     → list_any is_instruction_line (drop (i + 1) lines) ≡ false → IsLast lines (i + 1)
-is_last lines i h here none k = by_order (nat_lt k (i + 1)) refl
-  where
-    by_order : (b : Bool) → nat_lt k (i + 1) ≡ b → b ≡ list_any is_instruction_line (drop k lines)
-    by_order true e =
-        let le : k ≤ i = grind (arith, nat_tests) in
-        let sum : k + (i - k) ≡ i = omega arith in
-        let d : drop (i - k) (drop k lines) ≡ drop i lines = drop-drop (i - k) k lines ∙ ap (λ n. drop n lines) sum in
-        sym (any_before is_instruction_line (i - k) (drop k lines) (ap (list_any is_instruction_line) d ∙ any_here is_instruction_line lines
-        i h here))
-    by_order false e =
-        let le : i + 1 ≤ k = grind (arith, nat_tests) in
-        let sum : i + 1 + (k - (i + 1)) ≡ k = omega arith in
-        let d : drop (k - (i + 1)) (drop (i + 1) lines) ≡ drop k lines = drop-drop (k - (i + 1)) (i + 1) lines ∙ ap (λ n. drop n lines)
-        sum in
-        sym (ap (list_any is_instruction_line) (sym d) ∙ none_after is_instruction_line (k - (i + 1)) (drop (i + 1) lines) none)
+is_last lines i h here none k =
+    grind (
+      arith,
+      nat_tests,
+      drop-drop (i - k) k lines,
+      any_before is_instruction_line (i - k),
+      any_here is_instruction_line lines i h here,
+      drop-drop (k - (i + 1)) (i + 1) lines,
+      none_after is_instruction_line (k - (i + 1)),
+    )
 
 pub none_last : (lines : List (List ℕ)) → list_any is_instruction_line (drop 0 lines) ≡ false → IsLast lines 0
 none_last lines e k = let no : nat_lt k 0 ≡ false = grind (arith, nat_tests) in no ∙ sym (none_after is_instruction_line k lines e)
@@ -124,29 +99,13 @@ mapped_len (l ∷ ls) = ap suc (mapped_len ls)
 pub here_last : (ls : List (Bor (List ℕ))) (i : ℕ) (d : Bor (List ℕ)) (b : Bool) → 0 < i → i ≤ length ls → b ≡ is_instruction_line
     (get_or ls (i - 1) d).now → b ≡ true
     → list_any is_instruction_line (drop i (map (λ l. l.now) ls)) ≡ false → IsLast (map (λ l. l.now) ls) (i - 1 + 1)
-here_last ls i d b some within is here none =
-    let lines = map (λ (l : Bor (List ℕ)). l.now) ls in
-    let last : i - 1 + 1 ≡ i = omega arith in
-    let short : i - 1 < length ls = omega arith in
-    let inside : i - 1 < length lines = omega (arith, mapped_len ls) in
-    is_last lines (i - 1) inside (ap is_instruction_line (mapped_at ls (i - 1) d short) ∙ sym is ∙ here)
-    (ap (λ n. list_any is_instruction_line (drop n lines)) last ∙ none)
+here_last ls i d b some within is here none = grind (arith, nat_tests, mapped_len ls, is_last, mapped_at ls (i - 1) d)
 
 pub none_here : (ls : List (Bor (List ℕ))) (i : ℕ) (d : Bor (List ℕ)) (b : Bool) → 0 < i → i ≤ length ls → b ≡ is_instruction_line
     (get_or ls (i - 1) d).now → b ≡ false
     → list_any is_instruction_line (drop i (map (λ l. l.now) ls)) ≡ false → list_any is_instruction_line
     (drop (i - 1) (map (λ l. l.now) ls)) ≡ false
-none_here ls i d b some within is here none =
-    let lines = map (λ (l : Bor (List ℕ)). l.now) ls in
-    let last : suc (i - 1) ≡ i = omega arith in
-    let short : i - 1 < length ls = omega arith in
-    let inside : i - 1 < length lines = omega (arith, mapped_len ls) in
-    let not_here : is_instruction_line (get_or lines (i - 1) []) ≡ false = ap is_instruction_line (mapped_at ls (i - 1) d short) ∙ sym is
-    ∙ here in
-    let rest : list_any is_instruction_line (drop (suc (i - 1)) lines) ≡ false = ap (λ n. list_any is_instruction_line (drop n lines)) last
-    ∙ none in
-    ap (list_any is_instruction_line) (drop-cons lines (i - 1) [] inside)
-    ∙ ap (λ c. c || list_any is_instruction_line (drop (suc (i - 1)) lines)) not_here ∙ rest
+none_here ls i d b some within is here none = grind (arith, nat_tests, mapped_len ls, mapped_at ls (i - 1) d, drop-cons)
 
 -- all lines: the place in the list is past the end
 pub none_at_end : (ls : List (Bor (List ℕ))) (i : ℕ) → length ls ≤ i → list_any is_instruction_line (drop i (map (λ l. l.now) ls)) ≡ false
@@ -158,18 +117,14 @@ pub more_lent : (i : ℕ) (place next : Place) (ls : List (Bor (List ℕ))) (d :
     → with_addresses more (layout_from (i + 1 + 1) next (drop (i + 1) (map (λ l. l.now) ls))) ≡ with_addresses front
     (layout_from (i + 1) place (drop i (map (λ l. l.now) ls)))
 more_lent i place next ls d follows last front more h is_last is_follows is_next is_more =
-    let lines = map (λ (l : Bor (List ℕ)). l.now) ls in
-    more_lines i place next lines (get_or ls i d).now follows front more (omega (arith, mapped_len ls)) (sym (mapped_at ls i d h))
-    (is_follows ∙ is_last (i + 1)) is_next is_more
+    grind (arith, nat_tests, more_lines i place next, mapped_len ls, mapped_at ls i d h)
 
 pub faulty_lent : (i : ℕ) (place : Place) (ls : List (Bor (List ℕ))) (d : Bor (List ℕ)) (follows : Bool) (last : ℕ) (front : List ℕ)
     (why : AsmWhy) → i < length ls → IsLast (map (λ l. l.now) ls) last → follows ≡ nat_lt (i + 1) last
     → after_line follows (get_or ls i d).now place ≡ Err why → with_addresses front
     (layout_from (i + 1) place (drop i (map (λ l. l.now) ls))) ≡ Err (record { line = i + 1; why = why })
 faulty_lent i place ls d follows last front why h is_last is_follows is_fault =
-    let lines = map (λ (l : Bor (List ℕ)). l.now) ls in
-    faulty_line i place lines (get_or ls i d).now follows front why (omega (arith, mapped_len ls)) (sym (mapped_at ls i d h))
-    (is_follows ∙ is_last (i + 1)) is_fault
+    grind (arith, nat_tests, faulty_line i place, mapped_len ls, mapped_at ls i d h)
 
 pub last_lent : (k i : ℕ) (place : Place) (ls : List (Bor (List ℕ))) (front : List ℕ) → length ls ≤ i → with_addresses front
     (layout_from k place (drop i (map (λ l. l.now) ls))) ≡ Ok (record { addresses = front; symbols = place.symbols })
@@ -190,8 +145,7 @@ told_fault k why told says whole (inr e) f w (inr l) = inr (f e ∙ (λ i. Err (
 -- the arguments of a line, and the text of the first
 pub arguments_told : (line : List ℕ) (tokens body arguments : List Token) (action : Action) → body ≡ body_of tokens
     → action ≡ action_of line body → arguments ≡ arguments_of action body → arguments ≡ arguments_in line tokens
-arguments_told line tokens body arguments action body_is action_is is =
-    is ∙ ap (λ a. arguments_of a body) action_is ∙ ap (λ b. arguments_of (action_of line b) b) body_is
+arguments_told line tokens body arguments action body_is action_is is = cc
 
 pub first_there : (line : List ℕ) (arguments there : List Token) (d : Token) → 1 ≤ length arguments → arguments ≡ there
     → text_of line (get_or arguments 0 d) ≡ first_text line there
@@ -208,9 +162,4 @@ pub after_told : (follows : Bool) (line : List ℕ) (place : Place) (tokens lent
     → label ≡ label_of line lent → name ≡ first_text line (arguments_in line lent)
     → applied label name effect place ≡ after_line follows line place
 unfolding after_line
-after_told follows line place tokens lent effect label name content is does label_is name_is =
-    let rest = λ (ts : List Token) (e : Effect). applied (label_of line ts) (first_text line (arguments_in line ts)) e place in
-    ap (λ l. applied l name effect place) label_is ∙ ap (λ n. applied (label_of line lent) n effect place) name_is
-    ∙ sym (ap (λ o. o >>= rest lent) does)
-    ∙ ap (λ ts. effect_in line place.symbols follows ts >>= rest ts) is
-    ∙ sym (ap (λ o. o >>= (λ ts. effect_in line place.symbols follows ts >>= rest ts)) content)
+after_told follows line place tokens lent effect label name content is does label_is name_is = cc

@@ -1,7 +1,6 @@
 -- Lines of a text, tokens before the line's end, and parts between commas.
 use Rattle.std.proofs.Common.{◌≡◌, ℕ, suc, ◌+◌, ◌-◌, ◌^◌, ◌<◌, ◌≤◌, Bool, true, false, cond, List, [], ◌∷◌, ◌++◌, All, Bor, length, get_or}
-use Rattle.std.proofs.Common.{take, drop, map, refl, sym, ◌∙◌, ap, subst, append_assoc, drop-cons, drop-drop, arith}
-use Rattle.std.specs.Prelude.{Option, if◌then◌else◌}
+use Rattle.std.proofs.Common.{take, drop, map, refl, sym, ◌∙◌, ap, subst, append_assoc, drop-cons, drop-drop, arith, Option}
 use Rattle.std.specs.List.{prefix_len, slice_split, onto_first as onto_first_part, AllByRecursion}
 use Rattle.std.proofs.Math.Seq.{take-length}
 use Rattle.std.proofs.lemmas.List.{drop_all, length-drop, map-append, append-nil}
@@ -13,10 +12,11 @@ use Rattle.avr_text.specs.declared.mnemonics.Mnemonic.{Mnemonic}
 use Rattle.avr_asm.specs.declared.lines.Action.{Action}
 use Rattle.avr_asm.specs.declared.lines.Action.TheVariants as action
 use Rattle.avr_asm.specs.Directives.{directive_of}
-use Rattle.avr_asm.specs.Lines.{goes_on, lines_of, onto_first, first_len, is_comma, parts_of}
-use Rattle.avr_asm.specs.Lines.{is_name, directive_or_none, dot_action, arguments_of}
+use Rattle.avr_asm.specs.Lines.{goes_on, lines_of, onto_first, first_len, is_comma, parts_of, is_name, directive_or_none, dot_action}
+use Rattle.avr_asm.specs.Lines.{arguments_of}
 use Rattle.avr_asm.specs.Layout.{EachShort}
 use Rattle.avr_text.specs.Operands.{AllLie, EachLies}
+use Rattle.std.proofs.lemmas.Bool.Decides.{nat_tests}
 
 -- the first that doesn't pass
 pub passes_no_more : (p : Token → Bool) (xs : List Token) (n : ℕ) (d : Token) → n < length xs → p (get_or xs n d) ≡ false
@@ -30,9 +30,7 @@ first_none xs n h = ap first_len (drop_all n xs h)
 -- a text is its first line and the lines of the rest
 first_onto : (g : Bool) (b k : ℕ) (xs : List ℕ) → lines_of xs ≡ take k xs ∷ lines_of (drop k xs) → cond g (onto_first b (lines_of xs))
     ((b ∷ []) ∷ lines_of xs) ≡ take (cond g (1 + k) 1) (b ∷ xs) ∷ lines_of (drop (cond g (1 + k) 1) (b ∷ xs))
-first_onto true b k xs h =
-    let e : 1 + k ≡ suc k = omega arith in
-    ap (onto_first b) h ∙ ap (λ n. take n (b ∷ xs) ∷ lines_of (drop n (b ∷ xs))) (sym e)
+first_onto true b k xs h = let e : 1 + k ≡ suc k = omega arith in cc
 first_onto false b k xs h = refl
 
 first_line : (b : ℕ) (bs : List ℕ) → lines_of (b ∷ bs) ≡ take (first_len (b ∷ bs)) (b ∷ bs) ∷ lines_of (drop (first_len (b ∷ bs)) (b ∷ bs))
@@ -49,21 +47,11 @@ pub cut_line : (text : List ℕ) (start n : ℕ) (front more : List (Bor (List �
     (drop start text) → line.now ≡ take n (drop start text) → more ≡ front ++ line ∷ []
     → map (λ l. l.now) more ++ lines_of (drop (start + n) text) ≡ map (λ l. l.now) front ++ lines_of (drop start text)
 cut_line text start n front more line h is_n is_line is_more =
-    let rest = drop start text in
-    let some : 0 < length rest = omega (arith, length-drop start text) in
-    let after : drop n rest ≡ drop (start + n) text = drop-drop n start text in
-    let cut : lines_of rest ≡ line.now ∷ lines_of (drop (start + n) text) =
-    first_of_some rest some ∙ ap (λ k. take k rest ∷ lines_of (drop k rest)) (sym is_n) ∙ ap (λ l. l ∷ lines_of (drop n rest)) (sym is_line)
-    ∙ ap (λ xs. line.now ∷ lines_of xs) after in
-    ap (λ (ls : List (Bor (List ℕ))). map (λ l. l.now) ls ++ lines_of (drop (start + n) text)) is_more
-    ∙ ap (λ ls. ls ++ lines_of (drop (start + n) text)) (map-append (λ (l : Bor (List ℕ)). l.now) front (line ∷ []))
-    ∙ append_assoc (map (λ (l : Bor (List ℕ)). l.now) front) (line.now ∷ []) (lines_of (drop (start + n) text))
-    ∙ ap (λ ls. map (λ (l : Bor (List ℕ)). l.now) front ++ ls) (sym cut)
+    grind (arith, nat_tests, length-drop start text, drop-drop n start text, first_of_some, map-append, append_assoc)
 
 pub no_more_lines : (text : List ℕ) (start : ℕ) (front : List (Bor (List ℕ))) → length text ≤ start → map (λ l. l.now) front
     ++ lines_of (drop start text) ≡ map (λ l. l.now) front
-no_more_lines text start front h = ap (λ xs. map (λ (l : Bor (List ℕ)). l.now) front ++ lines_of xs) (drop_all start text h)
-    ∙ append-nil (map (λ (l : Bor (List ℕ)). l.now) front)
+no_more_lines text start front h = cc (drop_all start text h, append-nil (map (λ (l : Bor (List ℕ)). l.now) front))
 
 -- the parts of a list of tokens that lie in the line
 AllParts : (P : Token → Type 0) → List (List Token) → Type 0
@@ -136,11 +124,7 @@ short_lines : (n : ℕ) (lines : List (List ℕ)) (items : List (Bor (List ℕ))
     → AllByRecursion (λ l. length l ≤ n) lines → AllByRecursion (λ l. length l.now < 2 ^ 32 - 1) items
 short_lines n lines [] h e k = tt
 short_lines n [] (i ∷ items) h e k = absurd cc
-short_lines n (x ∷ xs) (i ∷ items) h e k =
-    let first : i.now ≡ x = cc in
-    let rest : map (λ (p : Bor (List ℕ)). p.now) items ≡ xs = cc in
-    let small : length x ≤ n = k.0 in
-    (omega (arith, ap length first), short_lines n xs items h rest k.1)
+short_lines n (x ∷ xs) (i ∷ items) h e k = grind (arith, nat_tests, short_lines n xs items h)
 
 lent_len : (ls : List (Bor (List ℕ))) → length (map (λ l. l.now) ls) ≡ length ls
 lent_len [] = refl
@@ -148,8 +132,7 @@ lent_len (l ∷ ls) = ap suc (lent_len ls)
 
 pub each_short : (text : List ℕ) (items : List (Bor (List ℕ))) → length text < 2 ^ 32 - 1 → map (λ l. l.now) items ≡ lines_of text
     → EachShort items
-each_short text items h e = All-from_recursion (λ l. length l.now < 2 ^ 32 - 1) items (short_lines (length text) (lines_of text) items h e
-    (each_line text))
+each_short text items h e = All-from_recursion (λ l. length l.now < 2 ^ 32 - 1) items (short_lines _ _ _ h e (each_line text))
 
 pub few_lines : (text : List ℕ) (items : List (Bor (List ℕ))) → length text < 2 ^ 32 - 1 → map (λ l. l.now) items ≡ lines_of text
     → length items < 2 ^ 32 - 1
@@ -160,18 +143,14 @@ pub dot_told : (line : List ℕ) (tokens : List Token) (d e : Token) (word : Lis
     → is_name (get_or tokens 0 d).kind ≡ true → word ≡ text_of line (get_or tokens 0 e) → found ≡ directive_of word
     → directive_or_none found ≡ dot_action line tokens
 dot_told line [] d e word found some name word_is found_is = absurd (omega arith)
-dot_told line (t ∷ ts) d e word found some name word_is found_is =
-    ap directive_or_none (found_is ∙ ap directive_of word_is)
-    ∙ ap (λ b. if b then directive_or_none (directive_of (text_of line t)) else action.NoDirective) (sym name)
+dot_told line (t ∷ ts) d e word found some name word_is found_is = cc
 
 -- the arguments are the rest of the body
 pub no_arguments : (a : Action) (body : List Token) → ((m : Mnemonic) → a ≡ action.Instruction m → ⊥)
     → ((d : Directive) → a ≡ action.Directive d → ⊥) → arguments_of a body ≡ []
-no_arguments action.Empty body h k = refl
-no_arguments action.Unknown body h k = refl
-no_arguments action.NoDirective body h k = refl
 no_arguments (action.Instruction m) body h k = absurd (h m refl)
 no_arguments (action.Directive d) body h k = absurd (k d refl)
+no_arguments other body h k = refl
 
 pub rest_whole : (tokens : List Token) (n : ℕ) → take (length tokens - n) (drop n tokens) ≡ drop n tokens
 rest_whole tokens n = ap (λ k. take k (drop n tokens)) (sym (length-drop n tokens)) ∙ take-length (drop n tokens)

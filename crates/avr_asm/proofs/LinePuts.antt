@@ -1,7 +1,5 @@
 -- The second pass adds to what is there what each line puts out.
-use Rattle.std.proofs.Common.{◌≡◌, ℕ, ◌+◌, ◌/◌, List, [], ◌∷◌, ◌++◌, refl, sym, ap}
-use Rattle.std.specs.Prelude.{Option, None, Some, Ok, Err}
-use Rattle.std.proofs.lemmas.List.{append-nil}
+use Rattle.std.proofs.Common.{◌≡◌, ℕ, ◌+◌, List, [], ◌++◌, refl, sym, arith, Option, None, Some, Ok, Err, append-nil}
 use Rattle.avr_table.specs.declared.Instr.{Instr}
 use Rattle.avr_text.specs.declared.tokens.Token.{Token}
 use Rattle.avr_text.specs.Names.{NameMap}
@@ -11,17 +9,14 @@ use Rattle.avr_asm.specs.declared.lines.Action.{Action}
 use Rattle.avr_asm.specs.declared.lines.Action.TheVariants as action
 use Rattle.avr_asm.specs.declared.output.Hint.{Hint}
 use Rattle.avr_asm.specs.declared.output.Placed.{Placed}
-use Rattle.avr_asm.specs.Emission.{Flash, put, byte_data, word_data, instruction_bytes}
+use Rattle.avr_asm.specs.Emission.{Flash, put, byte_data, word_data}
 use Rattle.avr_text.specs.Faults.{OrFault, ◌>>=◌}
 use Rattle.avr_asm.specs.Hints.{hint_of, mapped}
-use Rattle.avr_text.specs.Instructions.{instruction_of}
-use Rattle.avr_asm.specs.Layout.{arguments_in}
-use Rattle.avr_asm.specs.Lines.{content_of, body_of, action_of, parts_of}
-use Rattle.avr_asm.specs.Assembly.{Output, with_image, with_item, with_instruction, with_data, with_hint, with_directive, with_action}
-use Rattle.avr_asm.specs.Assembly.{with_tokens, with_line, following}
+use Rattle.avr_asm.specs.Assembly.{Output, with_instruction, with_data, with_hint, with_directive, with_action, with_line, following}
 use Rattle.avr_asm.specs.Relation.{item_of, hint_list}
 use Rattle.avr_asm.specs.LineOutputs.{LineOutput, instruction_output, data_output, hint_output, directive_output, action_output}
-use Rattle.avr_asm.specs.LineOutputs.{tokens_output, line_output}
+use Rattle.avr_asm.specs.LineOutputs.{line_output}
+use Rattle.std.proofs.lemmas.Bool.Decides.{nat_tests}
 
 -- what is there, with a line's output put at its address
 abbrev pub with_output : ℕ → ℕ → Output → LineOutput → OrFault Output
@@ -44,34 +39,15 @@ unchanged out = same_lists out out.image (out.items ++ []) (out.hints ++ []) (ap
 
 item_put : (k address : ℕ) (out : Output) (i : Instr) → with_instruction k address out i ≡ with_output k address out (instruction_output i)
 unfolding with_instruction
-item_put k address out i = by_case (put address (instruction_bytes i) out.image)
-  where
-    by_case : (p : OrFault Flash) → with_item out (record { at = address / 2; line = k; instr = i }) p
-        ≡ mapped p (λ image. record {
-          image = image;
-          items = out.items ++ record { at = address / 2; line = k; instr = i } ∷ [];
-          hints = out.hints ++ [];
-        })
-    by_case (Ok image) = ap (λ hs. Ok (record {
-      image = image;
-      items = out.items ++ record { at = address / 2; line = k; instr = i } ∷ [];
-      hints = hs;
-    })) (sym (append-nil out.hints))
-    by_case (Err fault) = refl
+item_put k address out i = grind (arith, nat_tests, append-nil out.hints)
 
 data_put : (k address : ℕ) (out : Output) (bytes : List ℕ) → with_data address out bytes ≡ with_output k address out (data_output bytes)
 unfolding with_data
-data_put k address out bytes = by_case (put address bytes out.image)
-  where
-    by_case : (p : OrFault Flash) → with_image out p ≡ mapped p
-        (λ image. record { image = image; items = out.items ++ []; hints = out.hints ++ [] })
-    by_case (Ok image) = sym (same_lists out image (out.items ++ []) (out.hints ++ []) (append-nil out.items) (append-nil out.hints))
-    by_case (Err fault) = refl
+data_put k address out bytes = grind (arith, nat_tests, same_lists out, append-nil out.items, append-nil out.hints)
 
 hint_put : (k address : ℕ) (out : Output) (hint : Option Hint) → with_hint out hint ≡ with_output k address out (hint_output hint)
 hint_put k address out None = sym (unchanged out)
-hint_put k address out (Some hint) = ap (λ is. Ok (record { image = out.image; items = is; hints = out.hints ++ hint ∷ [] }))
-    (sym (append-nil out.items))
+hint_put k address out (Some hint) = cc (append-nil out.items)
 
 -- a step on a value is one on what is made of it
 on_mapped : {X : Type 0} (o : OrFault X) (f : X → LineOutput) (g : X → OrFault Output) (h : LineOutput → OrFault Output)
@@ -106,21 +82,12 @@ directive_put directive.Fact line symbols k address following parts out = on_map
 action_put : (a : Action) (line : List ℕ) (symbols : NameMap) (k address following : ℕ) (parts : List (List Token)) (out : Output)
     → with_action a line symbols k address following parts out ≡ (action_output a line symbols address following parts >>= with_output k
     address out)
-action_put action.Empty line symbols k address following parts out = sym (unchanged out)
-action_put action.Unknown line symbols k address following parts out = sym (unchanged out)
-action_put action.NoDirective line symbols k address following parts out = sym (unchanged out)
 action_put (action.Instruction mnemonic) line symbols k address following parts out =
-    on_mapped (instruction_of mnemonic (record { line = line; symbols = symbols; next = address + 2; parts = parts })) instruction_output
-    (with_instruction k address out) (with_output k address out) (item_put k address out)
+    on_mapped _ instruction_output (with_instruction k address out) (with_output k address out) (item_put k address out)
 action_put (action.Directive d) line symbols k address following parts out = directive_put d line symbols k address following parts out
+action_put other line symbols k address following parts out = sym (unchanged out)
 
 pub line_put : (line : List ℕ) (symbols : NameMap) (k address following : ℕ) (out : Output)
     → with_line line symbols k address following out ≡ (line_output symbols address following line >>= with_output k address out)
 unfolding with_line line_output
-line_put line symbols k address following out = by_case (content_of line)
-  where
-    by_case : (o : OrFault (List Token)) → (o >>= with_tokens line symbols k address following out)
-        ≡ ((o >>= tokens_output line symbols address following) >>= with_output k address out)
-    by_case (Ok tokens) = action_put (action_of line (body_of tokens)) line symbols k address following
-        (parts_of (arguments_in line tokens)) out
-    by_case (Err fault) = refl
+line_put line symbols k address following out = grind (arith, nat_tests, action_put)

@@ -1,18 +1,16 @@
 -- The image and the symbols are made of the entries that the lines give.
 use Rattle.std.proofs.Common.{◌≡◌, ℕ, ◌+◌, Bool, true, false, ◌&&◌, not, cond, List, [], ◌∷◌, ◌++◌, nat_le, refl, sym, ◌∙◌, ap, subst}
-use Rattle.std.proofs.Common.{append_assoc}
-use Rattle.std.specs.Prelude.{Option, None, Some, Ok, Err, is_some, is_none, ℤ, pos}
+use Rattle.std.proofs.Common.{append_assoc, Option, None, Some, Ok, Err, is_some, is_none, ℤ, append-nil}
 use Rattle.std.specs.Ordering.{nat_cmp, eq_by_cmp}
 use Rattle.std.specs.Cmp.Lexicographic.{slice_cmp, nat_list_cmp_total}
 use Rattle.std.proofs.lemmas.Cmp.{nat_cmp_total}
 use Rattle.std.specs.List.{AllByRecursion, list_any, IsDistinct}
 use Rattle.std.specs.Map.{keys_of}
 use Rattle.std.specs.FinMap.{nat_cmp-IsAntisymmetric, slice_cmp-IsAntisymmetric, get, insert, empty}
-use Rattle.std.proofs.lemmas.List.{append-nil}
 use Rattle.avr_text.specs.Names.{NameMap}
 use Rattle.avr_text.specs.declared.errors.AsmWhy.TheVariants as why
 use Rattle.avr_asm.specs.declared.first_pass.Effect.{Effect}
-use Rattle.avr_asm.specs.declared.first_pass.Effect.TheVariants.{Nothing, Move, Define, Take, Wrong}
+use Rattle.avr_asm.specs.declared.first_pass.Effect.TheVariants.{Define}
 use Rattle.avr_asm.specs.declared.layout.Place.{Place}
 use Rattle.avr_asm.specs.Emission.{Flash, put}
 use Rattle.avr_text.specs.Faults.{OrFault}
@@ -87,19 +85,14 @@ pub label_made : (label : Option (List ℕ)) (old new : Place) (es : List (List 
     es
     → IsMadeOf new.symbols (es ++ label_entries label old.address) × AreFree (label_entries label old.address)
 label_made None old new es e made = (unchanged_made old new es e made, tt)
-label_made (Some name) old new es e made = defined_made name (pos old.address) old.symbols new.symbols es
-    (with_symbols_ok old.address (defined name (pos old.address) old.symbols) new e) made
+label_made (Some name) old new es e made = defined_made _ _ _ _ es (with_symbols_ok _ _ _ e) made
 
 -- an `.equ` name
 pub equ_made : (effect : Effect) (name : List ℕ) (old new : Place) (es : List (List ℕ × ℤ)) → named effect name old ≡ Ok new
     → IsMadeOf old.symbols es
     → IsMadeOf new.symbols (es ++ equ_entries effect name) × AreFree (equ_entries effect name)
-equ_made (Define value) name old new es e made = defined_made name value old.symbols new.symbols es
-    (with_symbols_ok old.address (defined name value old.symbols) new e) made
-equ_made Nothing name old new es e made = (unchanged_made old new es e made, tt)
-equ_made (Move to) name old new es e made = (unchanged_made old new es e made, tt)
-equ_made (Take bytes even) name old new es e made = (unchanged_made old new es e made, tt)
-equ_made Wrong name old new es e made = (unchanged_made old new es e made, tt)
+equ_made (Define value) name old new es e made = defined_made _ _ _ _ es (with_symbols_ok _ _ _ e) made
+equ_made other name old new es e made = (unchanged_made old new es e made, tt)
 
 -- the predefined names are all new
 abbrev fresh : List (List ℕ × ℤ) → List (List ℕ) → Bool

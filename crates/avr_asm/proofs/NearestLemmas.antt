@@ -1,8 +1,6 @@
 -- Where halving finds the nearest label.
 use Rattle.std.proofs.Common.{◌≡◌, ◌∙◌, sym, ap, refl, arith, ℕ, zero, suc, ◌+◌, ◌<◌, ◌≤◌, Bool, true, false, cond, List, [], ◌∷◌, length}
-use Rattle.std.proofs.Common.{get_or, nat_le, nat_lt}
-use Rattle.std.proofs.Common.{Bor}
-use Rattle.std.specs.Prelude.{Option, Some, None, is_some, slice_get, IfSome}
+use Rattle.std.proofs.Common.{get_or, nat_le, nat_lt, Bor, Option, Some, None, is_some, slice_get, IfSome}
 use Rattle.std.specs.Option.{option_copied}
 use Rattle.std.specs.List.Sorted.{IsNonDecreasingBy, IsPartitionPoint}
 use Rattle.std.proofs.lemmas.Bool.Decides.{nat_tests}
@@ -41,9 +39,7 @@ within address top (l ∷ ls) below = by_test (nat_le l.address address) (neares
 
 no_greater : (l : Label) (o : Option Label) → IfSome o (λ m. m.address ≤ l.address) → greater_of l o ≡ Some l
 no_greater l None h = refl
-no_greater l (Some m) h =
-    let not_less : nat_lt l.address m.address ≡ false = grind (arith, nat_tests, h) in
-    ap (λ b. cond b (Some m) (Some l)) not_less
+no_greater l (Some m) h = let not_less : nat_lt l.address m.address ≡ false = grind (arith, nat_tests, h) in cc
 
 -- the first at a greatest address that isn't after the address
 pub first_nearest : (address top : ℕ) (labels : List Label) (i : ℕ) (l : Label) → slice_get labels i ≡ Some l → l.address ≡ top → top ≤ address
@@ -91,14 +87,7 @@ lent labels i (Some l) there is =
 last_greatest : (address limit : ℕ) (labels : List Label) (after last : ℕ) (e : Label) → IsNonDecreasingBy (λ l. l.address) labels
     → limit ≡ address + 1 → after ≡ suc last → after ≤ length labels → CutsAt limit labels after → (j : ℕ) (d : Label) → j < length labels
     → (get_or labels j d).address ≤ address → (get_or labels j d).address ≤ (get_or labels last d).address
-last_greatest address limit labels after last e up is one bound cut j d h le = by_test (nat_le j last) refl
-  where
-    by_test : (t : Bool) → nat_le j last ≡ t → (get_or labels j d).address ≤ (get_or labels last d).address
-    by_test true f = up j last d (grind (arith, nat_tests, f)) (omega (arith, one, bound))
-    by_test false f =
-        let from : after ≤ j = grind (arith, nat_tests, f, one) in
-        let late = cut.1 j d from h in
-        absurd (grind (arith, nat_tests, late, le, is))
+last_greatest address limit labels after last e up is one bound cut j d h le = grind (arith, nat_tests, nat_le j last)
 
 -- the first from the last one's address on
 pub found_by_halving : (address limit top : ℕ) (labels : List Label) (after last i : ℕ) (d : Label)

@@ -1,7 +1,6 @@
 -- What the second pass over laid lines says: each puts something out at free addresses, or one has the first fault.
 use Rattle.std.proofs.Common.{◌≡◌, ℕ, zero, suc, ◌+◌, ◌<◌, ◌≤◌, Bool, true, false, cond, List, [], ◌∷◌, ◌++◌, length, map, nat_le, inl, inr}
-use Rattle.std.proofs.Common.{refl, sym, ◌∙◌, ap, subst, append_assoc, append-nil, arith}
-use Rattle.std.specs.Prelude.{Option, None, Some, Result, Ok, Err, is_some}
+use Rattle.std.proofs.Common.{refl, sym, ◌∙◌, ap, subst, append_assoc, append-nil, arith, Option, None, Some, Result, Ok, Err, is_some}
 use Rattle.std.specs.List.{list_any}
 use Rattle.std.specs.FinMap.{get, insert, gets, from_entries}
 use Rattle.std.proofs.lemmas.Bool.Decides.{nat_tests}
@@ -13,8 +12,8 @@ use Rattle.avr_text.specs.Faults.{OrFault, ◌>>=◌, number_of}
 use Rattle.avr_asm.specs.declared.errors.AsmError.{AsmError}
 use Rattle.avr_asm.specs.Assembly.{Output, following, with_line, at_line, output_from}
 use Rattle.avr_asm.specs.Emission.{Flash, put}
-use Rattle.avr_asm.specs.FirstFault.{IsLeast, Laid, end_after, place_after, IsLaid, AreLaid, Filled, bytes_by, puts_out}
-use Rattle.avr_asm.specs.FirstFault.{InSecondPass, IsFilled, AreFilled}
+use Rattle.avr_asm.specs.FirstFault.{IsLeast, Laid, place_after, IsLaid, AreLaid, Filled, bytes_by, puts_out, InSecondPass, IsFilled}
+use Rattle.avr_asm.specs.FirstFault.{AreFilled}
 use Rattle.avr_asm.specs.Hints.{mapped}
 use Rattle.avr_asm.specs.Layout.{arguments_in, effect_in, is_instruction_line}
 use Rattle.avr_asm.specs.LineOutputs.{LineOutput, tokens_output, line_output}
@@ -78,9 +77,8 @@ within_flash : (counts : WordsByName) (symbols : NameMap) (front : List Laid) (l
 unfolding effect_in
 within_flash counts symbols front l follows after o is puts =
     (line_end counts (action_of l.source (body_of l.tokens)) l.source (place_after front).symbols symbols (arguments_in l.source l.tokens)
-    (parts_of (arguments_in l.source l.tokens)) follows l.address
-    (following (map (λ (x : Laid). x.source) after) (map (λ (x : Laid). x.address) after)) (end_after l.effect l.address) l.effect o is.does
-    puts (placed_laid front l follows is)).1
+    (parts_of (arguments_in l.source l.tokens)) follows _
+    (following (map (λ (x : Laid). x.source) after) (map (λ (x : Laid). x.address) after)) _ _ _ is.does puts (placed_laid _ _ _ is)).1
 
 -- a line is put out by what it puts out by itself
 line_is : (symbols : NameMap) (front : List Laid) (l : Laid) (follows : Bool) (after : List Laid) (k : ℕ) (out : Output) → IsLaid front l
@@ -111,12 +109,7 @@ bytes_more (b ∷ bs) f = ap (λ xs. bytes_from b.laid.address b.output.bytes ++
 -- a line that puts nothing out for want of a meaning
 no_output_says : (symbols : NameMap) (before : List Filled) (l : Laid) (after : List Laid) (w : AsmWhy) → puts_out symbols l after ≡ Err w
     → IsLeast (InSecondPass symbols (from_entries (bytes_by before)) l after) w
-no_output_says symbols before l after w e = record { stands = inl e; least = least }
-  where
-    least : (v : AsmWhy) → InSecondPass symbols (from_entries (bytes_by before)) l after v → number_of w ≤ number_of v
-    least v (inl f) = let same : w ≡ v = err_same {X = LineOutput} w v (sym e ∙ f) in subst (λ u. number_of w ≤ number_of u) same
-        (omega arith)
-    least v (inr (is_v, over)) = let no : ◌≡◌ {A = OrFault LineOutput} (Err w) (Ok over.0) = sym e ∙ over.1 in absurd cc
+no_output_says symbols before l after w e = grind (arith, nat_tests, err_same)
 
 output_says : (symbols : NameMap) (before : List Filled) (l : Laid) (after : List Laid) (k : ℕ) (out : Output) (o : LineOutput)
     (p : OrFault Flash) → puts_out symbols l after ≡ Ok o
@@ -131,8 +124,7 @@ output_says : (symbols : NameMap) (before : List Filled) (l : Laid) (after : Lis
 output_says symbols before l after k out o (Ok image) puts e made says = record {
   output = o;
   filled = record { puts = puts; sound = sound };
-  made = subst (IsMadeOf image) (sym (bytes_more before (record { laid = l; output = o })))
-      (put_made l.address o.bytes out.image image (bytes_by before) e made);
+  made = subst (IsMadeOf image) (sym (bytes_more before (record { laid = l; output = o }))) (put_made _ _ _ _ (bytes_by before) e made);
 }
   where
     sound : (w : AsmWhy) → ¬ InSecondPass symbols (from_entries (bytes_by before)) l after w
@@ -213,8 +205,7 @@ lines_say_from symbols before l k ls (Err w) says more = record {
 }
 lines_say_from symbols before l k ls (Ok next) says more =
     let f : Filled = record { laid = l; output = says.output } in
-    one_more_says symbols before f k ls (output_from (k + 1) symbols next (map (λ (x : Laid). x.source) ls)
-    (map (λ (x : Laid). x.address) ls)) says.filled (more (before ++ f ∷ []) next says.made)
+    one_more_says _ _ _ _ _ _ says.filled (more (before ++ f ∷ []) next says.made)
 
 pub outputs_say : (counts : WordsByName) (symbols : NameMap) (ls front : List Laid) (before : List Filled) (k : ℕ) (out : Output)
     → AreLaid front ls [] → IsMadeOf out.image (bytes_by before)
@@ -222,9 +213,7 @@ pub outputs_say : (counts : WordsByName) (symbols : NameMap) (ls front : List La
 unfolding output_from
 outputs_say counts symbols [] front before k out laid made = tt
 outputs_say counts symbols (l ∷ ls) front before k out laid made =
-    lines_say_from symbols before l k ls
-    (with_line l.source symbols k l.address (following (map (λ (x : Laid). x.source) ls) (map (λ (x : Laid). x.address) ls)) out)
-    (line_says counts symbols front before l (list_any is_instruction_line (map (λ (x : Laid). x.source) ls ++ [])) ls k out laid.0 made)
+    lines_say_from _ _ _ _ _ _ (line_says counts _ _ _ _ _ _ _ _ laid.0 made)
     (λ bs next h. outputs_say counts symbols ls (front ++ l ∷ []) bs (k + 1) next laid.1 h)
 
 -- ---- and back
@@ -280,8 +269,7 @@ all_put counts symbols [] after front before k out laid filled made =
     }
 all_put counts symbols (f ∷ fs) after front before k out laid filled made =
     let ls = map (λ (g : Filled). g.laid) fs ++ after in
-    let here = filled_put counts symbols front before f (list_any is_instruction_line (map (λ (x : Laid). x.source) ls ++ [])) ls k out
-    laid.0 made filled.0 in
+    let here = filled_put counts _ _ _ _ _ _ _ _ laid.0 made filled.0 in
     let rest = all_put counts symbols fs after (front ++ f.laid ∷ []) (before ++ f ∷ []) (k + 1) here.next laid.1 filled.1 here.made in
     let count : k + 1 + length fs ≡ k + suc (length fs) = omega arith in
     record {
@@ -290,8 +278,7 @@ all_put counts symbols (f ∷ fs) after front before k out laid filled made =
       laid = subst (λ xs. AreLaid xs after []) (append_assoc front (f.laid ∷ []) (map (λ (g : Filled). g.laid) fs)) rest.laid;
       goes =
           ap (λ (o : OrFault Output). at_line k o (λ next. output_from (k + 1) symbols next (map (λ (x : Laid). x.source) ls)
-          (map (λ (x : Laid). x.address) ls))) here.goes
-          ∙ rest.goes
+          (map (λ (x : Laid). x.address) ls))) here.goes ∙ rest.goes
           ∙ ap (λ n. output_from n symbols rest.next (map (λ (x : Laid). x.source) after) (map (λ (x : Laid). x.address) after)) count;
     }
 

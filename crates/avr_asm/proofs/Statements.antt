@@ -14,11 +14,10 @@ use Rattle.avr_asm.specs.declared.errors.AsmError.{AsmError}
 use Rattle.avr_asm.specs.declared.layout.Place.{Place}
 use Rattle.avr_asm.specs.declared.output.Built.{Built}
 use Rattle.avr_asm.specs.Emission.{put}
-use Rattle.avr_text.specs.Faults.{OrFault, ◌>>=◌}
 use Rattle.avr_asm.specs.Layout.{Layout, start, layout_from, arguments_in, is_reserved, effect_in, is_instruction_line, GivesLayout}
-use Rattle.avr_asm.specs.Lines.{lines_of, content_of, label_of, first_text, body_of, action_of, parts_of}
+use Rattle.avr_asm.specs.Lines.{content_of, label_of, first_text, body_of, action_of, parts_of}
 use Rattle.avr_asm.specs.LineOutputs.{LineOutput, tokens_output, line_output}
-use Rattle.avr_asm.specs.Assembly.{Output, nothing, assembly, seen_built, following, output_from, with_line}
+use Rattle.avr_asm.specs.Assembly.{Output, nothing, assembly, seen_built, following, output_from}
 use Rattle.avr_asm.specs.Relation.{Statement, end_by, end_of, label_entries, equ_entries, definitions_in, definitions_of, predefined_names}
 use Rattle.avr_asm.specs.Relation.{names_of, bytes_from, bytes_of, item_of, items_of, hint_list, hints_of, IsStatement, IsAssembly}
 use Rattle.avr_asm.proofs.OutcomeLemmas.{ok_same, bound, made}
@@ -54,21 +53,17 @@ chain_from symbols front (s ∷ ss) h = (
 -- one more statement
 definitions_more : (before : List Statement) (s : Statement) → definitions_of (before ++ s ∷ []) ≡ definitions_of before ++ definitions_in s
 definitions_more [] s = append-nil (definitions_in s)
-definitions_more (b ∷ bs) s = ap (λ ds. definitions_in b ++ ds) (definitions_more bs s)
-    ∙ sym (append_assoc (definitions_in b) (definitions_of bs) (definitions_in s))
+definitions_more (b ∷ bs) s = cc (definitions_more bs s, append_assoc (definitions_in b) (definitions_of bs) (definitions_in s))
 
 pub definitions_append : (xs ys : List Statement) → definitions_of (xs ++ ys) ≡ definitions_of xs ++ definitions_of ys
 definitions_append [] ys = refl
-definitions_append (x ∷ xs) ys = ap (λ ds. definitions_in x ++ ds) (definitions_append xs ys)
-    ∙ sym (append_assoc (definitions_in x) (definitions_of xs) (definitions_of ys))
+definitions_append (x ∷ xs) ys = cc (definitions_append xs ys, append_assoc (definitions_in x) (definitions_of xs) (definitions_of ys))
 
 names_append : (xs ys : List Statement) → names_of (xs ++ ys) ≡ names_of xs ++ definitions_of ys
-names_append xs ys = ap (λ ds. predefined_names ++ ds) (definitions_append xs ys)
-    ∙ sym (append_assoc predefined_names (definitions_of xs) (definitions_of ys))
+names_append xs ys = cc (definitions_append xs ys, append_assoc predefined_names (definitions_of xs) (definitions_of ys))
 
 pub names_more : (before : List Statement) (s : Statement) → names_of before ++ definitions_in s ≡ names_of (before ++ s ∷ [])
-names_more before s = append_assoc predefined_names (definitions_of before) (definitions_in s) ∙ ap (λ ds. predefined_names ++ ds)
-    (sym (definitions_more before s))
+names_more before s = cc (append_assoc predefined_names (definitions_of before) (definitions_in s), definitions_more before s)
 
 pub bytes_more : (before : List Statement) (s : Statement) → bytes_of before ++ bytes_from s.address s.output.bytes ≡ bytes_of
     (before ++ s ∷ [])
@@ -114,8 +109,7 @@ statement {line = line} {place = place} k l o = record {
 tokens_put : (line : List ℕ) (symbols : NameMap) (address next : ℕ) (tokens : List Token) (o : LineOutput) → content_of line ≡ Ok tokens
     → line_output symbols address next line ≡ Ok o → tokens_output line symbols address next tokens ≡ Ok o
 unfolding line_output
-tokens_put line symbols address next tokens o is e = sym (ap (λ (c : OrFault (List Token)). c >>= tokens_output line symbols address next)
-    is) ∙ e
+tokens_put line symbols address next tokens o is e = cc
 
 ended : (counts : WordsByName) (follows : Bool) (line : List ℕ) (place next : Place) (all : NameMap) (after : ℕ)
     (l : LaidLine follows line place next) (o : LineOutput) → tokens_output line all place.address after l.tokens ≡ Ok o → end_by l.effect
@@ -134,11 +128,10 @@ named_more : (follows : Bool) (line : List ℕ) (place next : Place) (before : L
     → IsMadeOf next.symbols (names_of (before ++ statement k l o ∷ [])) × AreFree (definitions_in (statement k l o))
 named_more follows line place next before k l o names =
     let s = statement k l o in
-    let label = label_made (label_of line l.tokens) place l.first (names_of before) l.is_labelled names in
+    let label = label_made _ _ _ (names_of before) l.is_labelled names in
     let labels = label_entries (label_of line l.tokens) place.address in
     let equs = equ_entries l.effect (first_text line (arguments_in line l.tokens)) in
-    let equ = equ_made l.effect (first_text line (arguments_in line l.tokens)) l.first l.second (names_of before ++ labels) l.is_named
-    label.0 in
+    let equ = equ_made _ _ _ _ (names_of before ++ labels) l.is_named label.0 in
     let in_order : IsMadeOf l.second.symbols (names_of (before ++ s ∷ [])) = subst (IsMadeOf l.second.symbols)
     (append_assoc (names_of before) labels equs ∙ names_more before s) equ.0 in
     (subst (λ m. IsMadeOf m (names_of (before ++ s ∷ []))) (sym l.has_symbols) in_order, free_append labels equs label.1 equ.1)
@@ -199,40 +192,34 @@ stated stay counts all before k place out last [] layout is_all e f ready =
       hints = sym (ap (λ (o : Output). o.hints) same) ∙ sym (append-nil out.hints);
     }
 stated stay counts all before k place out last (line ∷ lines) layout is_all e f ready =
-    let laid = laid_lines k place line lines layout e in
+    let laid = laid_lines _ _ _ _ _ e in
     let l = laid.here in
     let g : output_from k all out (line ∷ lines) (place.address ∷ laid.rest.addresses) ≡ Ok last = ap (output_from k all out (line ∷ lines))
     (sym laid.addresses) ∙ f in
     let after = following lines laid.rest.addresses in
-    let it = at_line_ok k (with_line line all k place.address after out) (λ next. output_from (k + 1) all next lines laid.rest.addresses)
-    last g in
-    let step = bound (line_output all place.address after line) (with_output k place.address out) it.0
-    (sym (line_put line all k place.address after out) ∙ it.1) in
+    let it = at_line_ok _ _ (λ next. output_from (k + 1) all next lines laid.rest.addresses) _ g in
+    let step = bound _ (with_output k place.address out) _ (sym (line_put _ _ _ _ _ _) ∙ it.1) in
     let o = step.0 in
-    let p = is_put k place.address out it.0 o step.2 in
-    let puts = tokens_put line all place.address after l.tokens o l.is_content step.1 in
+    let p = is_put _ _ _ _ _ step.2 in
+    let puts = tokens_put _ _ _ _ _ _ l.is_content step.1 in
     let s = statement k l o in
     let rest = stated stay counts all (before ++ s ∷ []) (k + 1) laid.next it.0 last lines laid.rest (sym laid.symbols ∙ is_all)
-    laid.is_rest it.2 (ready_more counts (list_any is_instruction_line lines) line place laid.next before k all after l out it.0 o ready
-    puts p) in
+    laid.is_rest it.2 (ready_more counts (list_any is_instruction_line lines) _ _ _ _ _ _ _ l _ _ _ ready puts p) in
     let front : (before ++ s ∷ []) ++ rest.statements ≡ before ++ s ∷ rest.statements = append_assoc before (s ∷ []) rest.statements in
     let keeps : Keeps (from_entries (names_of before)) all =
-    front_kept (names_of before) (definitions_of (s ∷ rest.statements)) all (sym is_all ∙ laid.symbols ∙ rest.names.is
+    front_kept (names_of before) (definitions_of (s ∷ rest.statements)) _ (sym is_all ∙ laid.symbols ∙ rest.names.is
     ∙ ap (λ ns. from_entries {R = slice_cmp nat_cmp} ns) (ap names_of front ∙ names_append before (s ∷ rest.statements))) in
     let known = ap (λ m. effect_in line m (list_any is_instruction_line (map (λ (t : Statement). t.source) rest.statements)) l.tokens)
-    (sym ready.names.is)
-    ∙ ap (λ ls. effect_in line place.symbols (list_any is_instruction_line ls) l.tokens) rest.sources ∙ l.is_effect in
+    (sym ready.names.is) ∙ ap (λ ls. effect_in line place.symbols (list_any is_instruction_line ls) l.tokens) rest.sources ∙ l.is_effect in
     let here : IsStatement all before s rest.statements = record {
       numbered = ready.numbered;
       located = ready.placed;
       read = l.is_content;
       known = known;
-      fits = l.is_placed ∙ ap Ok (sym (ended counts (list_any is_instruction_line lines) line place laid.next all after l o puts));
-      does = effect_stays stay (from_entries (names_of before)) all keeps line
-          (list_any is_instruction_line (map (λ (t : Statement). t.source) rest.statements)) l.tokens l.effect known;
+      fits = l.is_placed ∙ ap Ok (sym (ended counts (list_any is_instruction_line lines) line place laid.next all after l _ puts));
+      does = effect_stays stay _ _ keeps _ _ _ _ known;
       puts = ap (λ ls. tokens_output line all place.address (following ls (map (λ (t : Statement). t.address) rest.statements)) l.tokens)
-          rest.sources
-          ∙ ap (λ xs. tokens_output line all place.address (following lines xs) l.tokens) rest.addresses ∙ puts;
+          rest.sources ∙ ap (λ xs. tokens_output line all place.address (following lines xs) l.tokens) rest.addresses ∙ puts;
     } in
     record {
       statements = s ∷ rest.statements;
@@ -256,24 +243,22 @@ nothing_made = record { is = refl; once = tt }
 
 pub is_assembly : (stay : ValuesStay) (counts : WordsByName) (text : List ℕ) (out : Output) → assembly text ≡ Ok out → IsAssembly text out
 is_assembly stay counts text out e =
-    let l = laid_out text out e in
+    let l = laid_out text _ e in
     let ready : IsReady [] 1 start nothing = record {
       numbered = refl;
       placed = refl;
-      names = subst (IsMadeOf start.symbols)
-          (sym (append-nil predefined_names)) predefined_made;
+      names = subst (IsMadeOf start.symbols) (sym (append-nil predefined_names)) predefined_made;
       image = nothing_made;
     } in
-    let all = stated stay counts l.0.symbols [] 1 start nothing out (lines_of text) l.0 refl l.1 l.2 ready in
+    let all = stated stay counts _ _ _ _ _ _ _ _ refl l.1 l.2 ready in
     record {
       statements = all.statements;
       symbols = l.0.symbols;
       sources = all.sources;
-      meanings = λ before s after is. chain_at l.0.symbols [] before s after (subst (Chain l.0.symbols []) is all.chain);
-      names = map_of_made nat_list_cmp_total (slice_cmp-IsAntisymmetric nat_cmp-IsAntisymmetric) l.0.symbols (names_of all.statements)
-          all.names;
+      meanings = λ before s after is. chain_at _ _ _ _ _ (subst (Chain l.0.symbols []) is all.chain);
+      names = map_of_made nat_list_cmp_total (slice_cmp-IsAntisymmetric nat_cmp-IsAntisymmetric) _ (names_of all.statements) all.names;
       free = All-from_recursion (λ entry. is_reserved entry.0 ≡ false) (definitions_of all.statements) all.free;
-      image = map_of_made nat_cmp_total nat_cmp-IsAntisymmetric out.image (bytes_of all.statements) all.image;
+      image = map_of_made nat_cmp_total nat_cmp-IsAntisymmetric _ (bytes_of all.statements) all.image;
       items = all.items;
       hints = all.hints;
     }

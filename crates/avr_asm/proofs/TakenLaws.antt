@@ -1,11 +1,9 @@
 -- Over taken cells a source is refused at the first statement that places a byte on one.
-use Rattle.std.proofs.Common.{◌≡◌, ℕ, zero, suc, ◌+◌, ◌<◌, Bool, true, false, cond, List, [], ◌∷◌, ◌++◌, length, map, nat_le, refl, sym, ◌∙◌}
-use Rattle.std.proofs.Common.{ap, subst, append_assoc, append-nil, arith}
-use Rattle.std.specs.Prelude.{All, None, Some, Ok, Err, is_some}
+use Rattle.std.proofs.Common.{◌≡◌, ℕ, zero, suc, ◌+◌, ◌<◌, Bool, true, false, cond, List, [], ◌∷◌, ◌++◌, length, map, nat_le, refl, sym}
+use Rattle.std.proofs.Common.{◌∙◌, ap, subst, append_assoc, append-nil, arith, All, None, Some, Ok, Err, is_some, nat_cmp}
 use Rattle.std.specs.List.{AllByRecursion}
 use Rattle.std.proofs.lemmas.List.Elements.{recursion_from_All}
 use Rattle.std.specs.FinMap.{find, get, insert, nat_cmp-IsAntisymmetric}
-use Rattle.std.specs.Ordering.{nat_cmp, eq_by_cmp}
 use Rattle.std.proofs.lemmas.Cmp.{nat_cmp_total}
 use Rattle.avr_text.specs.Names.{NameMap}
 use Rattle.avr_text.specs.declared.errors.AsmWhy.TheVariants as why
@@ -14,10 +12,9 @@ use Rattle.avr_text.specs.declared.tokens.Token.{Token}
 use Rattle.avr_asm.specs.Assembly.{Output, following, with_line, at_line, output_from}
 use Rattle.avr_asm.specs.Emission.{Flash, put}
 use Rattle.avr_asm.specs.Hints.{mapped}
-use Rattle.avr_asm.specs.Lines.{lines_of}
 use Rattle.avr_asm.specs.LineOutputs.{LineOutput, tokens_output, line_output}
 use Rattle.avr_asm.specs.Relation.{IsAssembly, IsStatement, Statement, bytes_from, bytes_of, hint_list, item_of}
-use Rattle.avr_asm.specs.Taken.{Hits, Misses, assembly_over, over, output_over}
+use Rattle.avr_asm.specs.Taken.{Hits, Misses, assembly_over, over}
 use Rattle.avr_asm.proofs.Decoding.{put_holds}
 use Rattle.avr_asm.proofs.ExactAssembly.{Once, bytes_append, exact_layout, found_there, new_key, within_flash}
 use Rattle.avr_asm.proofs.LineEnds.{WordsByName}
@@ -25,26 +22,17 @@ use Rattle.avr_asm.proofs.LinePuts.{with_output, line_put}
 use Rattle.avr_asm.proofs.OutcomeLemmas.{ok_same}
 use Rattle.avr_asm.proofs.SecondPassFaults.{PutSays, get_other, put_says}
 use Rattle.avr_asm.proofs.Statements.{Chain, bytes_more, chain_from}
+use Rattle.std.proofs.lemmas.Bool.Decides.{nat_tests}
 
 -- Bytes and addresses
 
 front_none : (q : ℕ) (xs ys : List (ℕ × ℕ)) → find nat_cmp q (xs ++ ys) ≡ None → find nat_cmp q xs ≡ None
 front_none q [] ys e = refl
-front_none q (x ∷ xs) ys e = by_case (eq_by_cmp nat_cmp q x.0) (front_none q xs ys) e
-  where
-    by_case : (b : Bool) → (find nat_cmp q (xs ++ ys) ≡ None → find nat_cmp q xs ≡ None)
-        → cond b (Some x.1) (find nat_cmp q (xs ++ ys)) ≡ None → cond b (Some x.1) (find nat_cmp q xs) ≡ None
-    by_case true rest n = n
-    by_case false rest n = rest n
+front_none q (x ∷ xs) ys e = grind (arith, nat_tests, front_none q xs ys)
 
 back_none : (q : ℕ) (xs ys : List (ℕ × ℕ)) → find nat_cmp q (xs ++ ys) ≡ None → find nat_cmp q ys ≡ None
 back_none q [] ys e = e
-back_none q (x ∷ xs) ys e = by_case (eq_by_cmp nat_cmp q x.0) (back_none q xs ys) e
-  where
-    by_case : (b : Bool) → (find nat_cmp q (xs ++ ys) ≡ None → find nat_cmp q ys ≡ None)
-        → cond b (Some x.1) (find nat_cmp q (xs ++ ys)) ≡ None → find nat_cmp q ys ≡ None
-    by_case true rest n = absurd cc
-    by_case false rest n = rest n
+back_none q (x ∷ xs) ys e = grind (arith, nat_tests, back_none q xs ys)
 
 -- bytes at addresses that stand once stand at none before them
 place_new : (at : ℕ) (bytes : List ℕ) (es ys : List (ℕ × ℕ)) → Once ((es ++ bytes_from at bytes) ++ ys) → (i : ℕ) → i < length bytes
@@ -117,9 +105,7 @@ module _ (counts : WordsByName) (symbols : NameMap) (taken : Flash) where
       by_case : (p : OrFault Flash) → put s.address s.output.bytes out.image ≡ p → PutSays s.address s.output.bytes out.image p
           → IsPut symbols taken front s after k out
       by_case (Err w) e (overlaps, i, lt, byte, held) =
-          let none : get out.image (s.address + i) ≡ None = stands.free (s.address + i) (misses i lt)
-          (place_new s.address s.output.bytes (bytes_of front) ys once i lt) in
-          absurd (cc (none, held))
+          grind (arith, nat_tests, place_new s.address s.output.bytes (bytes_of front) ys once i lt)
       by_case (Ok image) e free = record {
         next = record {
           image = image;
@@ -148,19 +134,13 @@ module _ (counts : WordsByName) (symbols : NameMap) (taken : Flash) where
       → with_line s.source symbols k s.address (following (map (λ t. t.source) after) (map (λ t. t.address) after)) out ≡ Err why.Overlap
   hit_refused front s after k out is (i, lt, byte, hit) stands =
       by_case (put s.address s.output.bytes out.image) refl
-      (put_says s.address s.output.bytes out.image (within_flash counts symbols front s after is))
+      (put_says _ _ _ (within_flash counts symbols front s after is))
     where
       by_case : (p : OrFault Flash) → put s.address s.output.bytes out.image ≡ p → PutSays s.address s.output.bytes out.image p
           → with_line s.source symbols k s.address (following (map (λ t. t.source) after) (map (λ t. t.address) after)) out
           ≡ Err why.Overlap
-      by_case (Ok image) e free =
-          absurd (cc (free i lt, stands.kept (s.address + i) byte hit))
-      by_case (Err w) e (overlaps, i, lt, byte, held) =
-          put_is symbols front s after k out is ∙ ap (λ p. mapped p (λ image. record {
-            image = image;
-            items = out.items ++ item_of k s.address s.output.instruction;
-            hints = out.hints ++ hint_list s.output.hint;
-          })) e ∙ ap (λ w. Err w) overlaps
+      by_case (Ok image) e free = absurd (cc (free i lt, stands.kept (s.address + i) byte hit))
+      by_case (Err w) e (overlaps, i, lt, byte, held) = cc (put_is symbols front s after k out is)
 
   -- statements that miss them are put, and the others follow
   record ArePut (front mid rest : List Statement) (k : ℕ) (out : Output) : Type 0 where
@@ -183,7 +163,7 @@ module _ (counts : WordsByName) (symbols : NameMap) (taken : Flash) where
       let bytes : bytes_of (front ++ (s ∷ ss ++ rest)) ≡ (bytes_of front ++ bytes_from s.address s.output.bytes) ++ bytes_of (ss ++ rest) =
       bytes_append front (s ∷ ss ++ rest)
       ∙ sym (append_assoc (bytes_of front) (bytes_from s.address s.output.bytes) (bytes_of (ss ++ rest))) in
-      let first = miss_put front s (ss ++ rest) k out (bytes_of (ss ++ rest)) chain.0 (subst (λ xs. Once xs) bytes once) miss.0 stands in
+      let first = miss_put _ _ _ _ _ (bytes_of (ss ++ rest)) chain.0 (subst (λ xs. Once xs) bytes once) miss.0 stands in
       let more = all_put (front ++ s ∷ []) ss rest (k + 1) first.next chain.1 (subst (λ ts. Once (bytes_of ts)) (sym regroup) once) miss.1
       first.stands in
       let count : k + 1 + length ss ≡ k + suc (length ss) = omega arith in
@@ -192,8 +172,7 @@ module _ (counts : WordsByName) (symbols : NameMap) (taken : Flash) where
         stands = subst (λ f. Stands taken f more.next.image) (append_assoc front (s ∷ []) ss) more.stands;
         goes =
             ap (λ (o : OrFault Output). at_line k o (λ n. output_from (k + 1) symbols n (map (λ (t : Statement). t.source) (ss ++ rest))
-            (map (λ (t : Statement). t.address) (ss ++ rest)))) first.step
-            ∙ more.goes
+            (map (λ (t : Statement). t.address) (ss ++ rest)))) first.step ∙ more.goes
             ∙ ap (λ n. output_from n symbols more.next (map (λ (s : Statement). s.source) rest) (map (λ (s : Statement). s.address) rest))
             count;
       }
@@ -204,16 +183,13 @@ nothing_stands taken = record { kept = λ q byte there. there; free = λ q lacks
 module _ (counts : WordsByName) (text : List ℕ) (taken : Flash) (out : Output) (is : IsAssembly text out) where
   runs : assembly_over taken text
       ≡ output_from 1 is.symbols (over taken) (map (λ s. s.source) is.statements) (map (λ s. s.address) is.statements)
-  runs =
-      ap (output_over taken (lines_of text)) (exact_layout text out is)
-      ∙ ap (λ ls. output_from 1 is.symbols (over taken) ls (map (λ (s : Statement). s.address) is.statements)) (sym is.sources)
+  runs = cc (exact_layout text out is, is.sources)
 
   parts : (mid rest : List Statement) → is.statements ≡ mid ++ rest → AllByRecursion (Misses taken) mid
       → ArePut counts is.symbols taken [] mid rest 1 (over taken)
   parts mid rest cut miss =
-      all_put counts is.symbols taken [] mid rest 1 (over taken)
-      (subst (λ ss. Chain is.symbols [] ss) cut (chain_from is.symbols [] is.statements is.meanings))
-      (subst (λ ss. Once (bytes_of ss)) cut is.image.once) miss (nothing_stands taken)
+      all_put _ _ _ _ _ rest 1 (over taken) (subst (λ ss. Chain is.symbols [] ss) cut (chain_from _ _ _ is.meanings))
+      (subst (λ ss. Once (bytes_of ss)) cut is.image.once) miss (nothing_stands _)
 
   pub first_hit : (before : List Statement) (s : Statement) (after : List Statement) → is.statements ≡ before ++ s ∷ after
       → All (Misses taken) before → Hits taken s
@@ -223,21 +199,13 @@ module _ (counts : WordsByName) (text : List ℕ) (taken : Flash) (out : Output)
       let put = parts before (s ∷ after) cut (recursion_from_All (Misses taken) before miss) in
       let meaning = is.meanings before s after cut in
       let number : 1 + length before ≡ s.number = omega (arith, meaning.numbered) in
-      runs
-      ∙ ap (λ ss. output_from 1 is.symbols (over taken) (map (λ (s : Statement). s.source) ss) (map (λ (s : Statement). s.address) ss)) cut
-      ∙ put.goes
-      ∙ ap (λ (o : OrFault Output). at_line (1 + length before) o (λ n. output_from (1 + length before + 1) is.symbols n
-      (map (λ (t : Statement). t.source) after) (map (λ (t : Statement). t.address) after)))
-      (hit_refused counts is.symbols taken before s after (1 + length before) put.next meaning hit put.stands)
-      ∙ ap (λ n. Err (record { line = n; why = why.Overlap })) number
+      cc (put.goes, hit_refused counts is.symbols taken before s after (1 + length before) put.next meaning hit put.stands, runs)
 
   pub no_hit : All (Misses taken) is.statements → (built : Output) × (assembly_over taken text ≡ Ok built)
   unfolding output_from
   no_hit miss =
-      let put = parts is.statements [] (sym (append-nil is.statements)) (recursion_from_All (Misses taken) is.statements miss) in (
+      let put = parts _ _ (sym (append-nil is.statements)) (recursion_from_All (Misses taken) is.statements miss) in (
         put.next,
-        runs
-            ∙ ap (λ ss. output_from 1 is.symbols (over taken) (map (λ (s : Statement). s.source) ss)
-            (map (λ (s : Statement). s.address) ss)) (sym (append-nil is.statements))
-            ∙ put.goes,
+        runs ∙ ap (λ ss. output_from 1 is.symbols (over taken) (map (λ (s : Statement). s.source) ss)
+            (map (λ (s : Statement). s.address) ss)) (sym (append-nil is.statements)) ∙ put.goes,
       )

@@ -1,7 +1,6 @@
 -- The words that a row's pattern writes are read as its instruction, whatever word follows an instruction of one.
-use Rattle.std.proofs.Common.{◌≡◌, ℕ, zero, suc, ◌+◌, ◌-◌, ◌*◌, ◌/◌, ◌%◌, ◌^◌, ◌<◌, Bool, true, false, ◌&&◌, ◌||◌, not, cond, List, [], ◌∷◌}
-use Rattle.std.proofs.Common.{◌++◌, length, nat_eq, nat_le, replicate, refl, sym, ◌∙◌, ap, subst, arith}
-use Rattle.std.specs.Prelude.{Option, Some, None}
+use Rattle.std.proofs.Common.{◌≡◌, ℕ, zero, suc, ◌+◌, ◌-◌, ◌*◌, ◌/◌, ◌%◌, ◌^◌, ◌<◌, Bool, true, false, ◌||◌, cond, List, [], ◌∷◌, ◌++◌}
+use Rattle.std.proofs.Common.{length, nat_eq, nat_le, replicate, refl, sym, ◌∙◌, ap, arith, Option, Some, None}
 use Rattle.std.specs.Int.{bit_at}
 use Rattle.std.proofs.lemmas.Nat.{mod-pow-add, pow-add}
 use Rattle.std.proofs.lemmas.Nat.Bits.{bit_at-lt}
@@ -15,6 +14,7 @@ use Rattle.avr_asm.specs.Codes.{field_of, place_bit, count_of, written, number_o
 use Rattle.avr_asm.proofs.CodeLemmas.{both, spelt, spelled_is, parts_of, same, dashes, dashes-length}
 use Rattle.avr_asm.proofs.RowTests.{wanted, covered, row_tests}
 use Rattle.avr_asm.proofs.RowFields.{EachSpelled, each_spelled}
+use Rattle.std.proofs.lemmas.Bool.Decides.{nat_tests}
 
 bit-lt : (d : Option Bool) (v k : ℕ) → place_bit d v k < 2
 bit-lt None v k = bit_at-lt v k
@@ -42,17 +42,14 @@ cut : (L : List (Char × ℕ)) (c : ℕ) (cs : List ℕ) (n : ℕ) → n % 2 ^ s
 unfolding written
 cut L c cs n e =
     let one : 1 + length cs ≡ suc (length cs) = omega arith in
-    parts_of n (place_bit (digit c) (field_of L c) (count_of c cs)) (length cs) (written L cs)
-    (bit-lt (digit c) (field_of L c) (count_of c cs)) (written-lt L cs) (ap (λ k. n % 2 ^ k) one ∙ e)
+    parts_of _ _ _ _ (bit-lt _ _ _) (written-lt L _) (ap (λ k. n % 2 ^ k) one ∙ e)
 
 -- its fixed bits stand
 written_stands : (L : List (Char × ℕ)) (p : List ℕ) (n : ℕ) → n % 2 ^ length p ≡ written L p → stands p n ≡ true
 unfolding stands
 written_stands L [] n e = refl
 written_stands L (c ∷ cs) n e =
-    let parts = cut L c cs n e in
-    ap (λ b. b && stands cs n) (bit_met (digit c) (field_of L c) (count_of c cs) (bit_at n (length cs)) parts.0) ∙ written_stands L cs n
-    parts.1
+    grind (arith, nat_tests, cut L c cs n e, bit_met (digit c) (field_of L c) (count_of c cs) (bit_at n (length cs)), written_stands L cs n)
 
 -- and its letters spell their numbers
 written_spells : (L : List (Char × ℕ)) (c : ℕ) (p : List ℕ) (n : ℕ) → digit c ≡ None → n % 2 ^ length p ≡ written L p
@@ -60,7 +57,7 @@ written_spells : (L : List (Char × ℕ)) (c : ℕ) (p : List ℕ) (n : ℕ) →
 unfolding spelt
 written_spells L c [] n none e = omega arith
 written_spells L c (d ∷ ds) n none e =
-    let parts = cut L d ds n e in
+    let parts = cut L _ _ _ e in
     by_case (nat_eq d c) refl parts.0 (written_spells L c ds n none parts.1)
   where
     by_case : (t : Bool) → nat_eq d c ≡ t → bit_at n (length ds) ≡ place_bit (digit d) (field_of L d) (count_of d ds)
@@ -69,13 +66,12 @@ written_spells L c (d ∷ ds) n none e =
         (count_of c ds)
     by_case false is bit rest = rest
     by_case true is bit rest =
-        let here : d ≡ c = same d c is in
+        let here : d ≡ c = same _ _ is in
         let same_bit : bit_at n (length ds) ≡ bit_at (field_of L c) (count_of c ds) =
         bit ∙ ap (λ x. place_bit (digit x) (field_of L x) (count_of x ds)) here ∙ ap (λ o. place_bit o (field_of L c) (count_of c ds))
         none in
         ap (λ b. b * 2 ^ count_of c ds + spelt c ds n) same_bit
-        ∙ ap (λ x. bit_at (field_of L c) (count_of c ds) * 2 ^ count_of c ds + x) rest
-        ∙ sym (mod-pow-add (field_of L c) 1 (count_of c ds))
+        ∙ ap (λ x. bit_at (field_of L c) (count_of c ds) * 2 ^ count_of c ds + x) rest ∙ sym (mod-pow-add (field_of L c) 1 (count_of c ds))
 
 written_letters : (L letters : List (Char × ℕ)) (p : List ℕ) (n : ℕ) → EachSpelled L p letters → n % 2 ^ length p ≡ written L p
     → Spells p n letters
@@ -86,24 +82,18 @@ written_letters L (x ∷ xs) p n each e =
 pub reads_written : (i : Instr) → ReadsAt (number_of i) i
 unfolding number_of
 reads_written i =
-    let small : number_of i % 2 ^ length (pattern_of i) ≡ number_of i = mod-eq_of_lt (written-lt (row i).letters (pattern_of i)) in
+    let small : number_of i % 2 ^ length (pattern_of i) ≡ number_of i = mod-eq_of_lt (written-lt (row i).letters _) in
     record {
-      fixed = written_stands (row i).letters (pattern_of i) (number_of i) small;
-      letters = written_letters (row i).letters
-          (row i).letters (pattern_of i) (number_of i) (each_spelled i) small;
+      fixed = written_stands (row i).letters _ _ small;
+      letters = written_letters (row i).letters (row i).letters _ _ (each_spelled _) small;
     }
 
 -- places that a pattern's end doesn't look at
 high_bit : (n k j : ℕ) → bit_at n (j + k) ≡ bit_at (n / 2 ^ k) j
-high_bit n k j =
-    let turned : j + k ≡ k + j = omega arith in
-    ap (λ x. n / 2 ^ x % 2) turned ∙ ap (λ x. n / x % 2) (pow-add 2 k j) ∙ ap (λ x. x % 2) (sym (div-div-eq-div-mul n (2 ^ k) (2 ^ j)))
+high_bit n k j = let turned : j + k ≡ k + j = omega arith in cc (pow-add 2 k j, div-div-eq-div-mul n (2 ^ k) (2 ^ j))
 
 same_bit : (ps : List ℕ) (k n m : ℕ) → n / 2 ^ k ≡ m / 2 ^ k → bit_at n (length (ps ++ dashes k)) ≡ bit_at m (length (ps ++ dashes k))
-same_bit ps k n m e =
-    let len : length (ps ++ dashes k) ≡ length ps + k = length-append ps (dashes k) ∙ ap (λ x. length ps + x) (dashes-length k) in
-    ap (bit_at n) len ∙ high_bit n k (length ps) ∙ ap (λ x. bit_at x (length ps)) e ∙ sym (high_bit m k (length ps))
-    ∙ sym (ap (bit_at m) len)
+same_bit ps k n m e = grind (arith, nat_tests, dashes k, length-append ps, dashes-length k, high_bit n k, high_bit m k)
 
 any_stands : (k n : ℕ) → stands (replicate k 45) n ≡ true
 unfolding stands
@@ -113,34 +103,25 @@ any_stands (suc k) n = any_stands k n
 none_spelt : (c k n : ℕ) → nat_eq 45 c ≡ false → spelt c (replicate k 45) n ≡ 0
 unfolding spelt
 none_spelt c zero n lacks = refl
-none_spelt c (suc k) n lacks =
-    ap (λ t. cond t (bit_at n (length {A = ℕ} (replicate k 45)) * 2 ^ count_of c (replicate k 45) + spelt c (replicate k 45) n)
-    (spelt c (replicate k 45) n)) lacks ∙ none_spelt c k n lacks
+none_spelt c (suc k) n lacks = cc (none_spelt c k n lacks)
 
 same_stands : (ps : List ℕ) (k n m : ℕ) → n / 2 ^ k ≡ m / 2 ^ k → stands (ps ++ dashes k) n ≡ stands (ps ++ dashes k) m
 unfolding stands dashes
 same_stands [] k n m e = any_stands k n ∙ sym (any_stands k m)
-same_stands (c ∷ cs) k n m e =
-    ap (λ b. meets (digit c) b && stands (cs ++ dashes k) n) (same_bit cs k n m e)
-    ∙ ap (λ t. meets (digit c) (bit_at m (length (cs ++ dashes k))) && t) (same_stands cs k n m e)
+same_stands (c ∷ cs) k n m e = cc (same_bit cs k n m e, same_stands cs k n m e)
 
 same_spelt : (c : ℕ) (ps : List ℕ) (k n m : ℕ) → nat_eq 45 c ≡ false → n / 2 ^ k ≡ m / 2 ^ k → spelt c (ps ++ dashes k) n ≡ spelt c
     (ps ++ dashes k) m
 unfolding spelt dashes
 same_spelt c [] k n m lacks e = none_spelt c k n lacks ∙ sym (none_spelt c k m lacks)
-same_spelt c (d ∷ ds) k n m lacks e =
-    ap (λ b. cond (nat_eq d c) (b * 2 ^ count_of c (ds ++ dashes k) + spelt c (ds ++ dashes k) n) (spelt c (ds ++ dashes k) n))
-    (same_bit ds k n m e)
-    ∙ ap (λ x. cond (nat_eq d c) (bit_at m (length (ds ++ dashes k)) * 2 ^ count_of c (ds ++ dashes k) + x) x)
-    (same_spelt c ds k n m lacks e)
+same_spelt c (d ∷ ds) k n m lacks e = cc (same_bit ds k n m e, same_spelt c ds k n m lacks e)
 
 same_letters : (letters : List (Char × ℕ)) (ps : List ℕ) (k n m : ℕ) → wanted letters 45 ≡ false → n / 2 ^ k ≡ m / 2 ^ k
     → Spells (ps ++ dashes k) n letters → Spells (ps ++ dashes k) m letters
 same_letters [] ps k n m lacks e each = tt
 same_letters (x ∷ xs) ps k n m lacks e each =
     let parts = neither (nat_eq 45 (code x.0)) (wanted xs 45) lacks in (
-      each.0 ∙ spelled_is (code x.0) (ps ++ dashes k) n ∙ same_spelt (code x.0) ps k n m parts.0 e
-          ∙ sym (spelled_is (code x.0) (ps ++ dashes k) m),
+      each.0 ∙ spelled_is _ _ _ ∙ same_spelt _ _ _ _ _ parts.0 e ∙ sym (spelled_is _ _ _),
       same_letters xs ps k n m parts.1 e each.1,
     )
   where
@@ -150,54 +131,22 @@ same_letters (x ∷ xs) ps k n m lacks e each =
 
 -- an instruction of one word is read whatever word follows
 short_row : (len : ℕ) → (nat_eq len 16 || nat_eq len 32) ≡ true → ◌≡◌ {A = ℕ} (cond (nat_le len 16) 1 2) 1 → len ≡ 16
-short_row len e w = by_case (nat_eq len 16) refl e
-  where
-    by_case : (t : Bool) → nat_eq len 16 ≡ t → (t || nat_eq len 32) ≡ true → len ≡ 16
-    by_case true is e' = same len 16 is
-    by_case false is e' = let long : len ≡ 32 = same len 32 e' in
-        absurd (let wrong : ◌≡◌ {A = ℕ} 2 1 = sym (ap (λ l. cond (nat_le l 16) 1 2) long) ∙ w in cc)
+short_row len e w = grind (arith, nat_tests, nat_eq len 16, nat_eq len 32, same len 16, same len 32, nat_le)
 
 pub reads_before : (i : Instr) (first second other : ℕ) → words_of i ≡ 1 → second < 65536 → other < 65536 → ReadsAt (first * 65536 + second)
     i → ReadsAt (first * 65536 + other) i
 unfolding dashes
 reads_before i first second other one hs ho reads =
-    let tests = both (nat_eq (length (places (row i).pattern)) 16 || nat_eq (length (places (row i).pattern)) 32)
-    (covered (row i).letters (places (row i).pattern) && not (wanted (row i).letters 45)) (row_tests i) in
-    let last = both (covered (row i).letters (places (row i).pattern)) (not (wanted (row i).letters 45)) tests.1 in
-    let len : length (places (row i).pattern) ≡ 16 = short_row (length (places (row i).pattern)) tests.0 one in
-    let same_top : (first * 65536 + second) / 65536 ≡ (first * 65536 + other) / 65536 = omega arith in
-    let k : 32 - length (places (row i).pattern) ≡ 16 = omega (arith, len) in
-    let e : (first * 65536 + second) / 2 ^ (32 - length (places (row i).pattern)) ≡ (first * 65536 + other) / 2 ^
-    (32 - length (places (row i).pattern)) =
-    ap (λ x. (first * 65536 + second) / 2 ^ x) k ∙ same_top ∙ sym (ap (λ x. (first * 65536 + other) / 2 ^ x) k) in
-    record {
-      fixed = sym (same_stands (places (row i).pattern) (32 - length (places (row i).pattern)) (first * 65536 + second)
-          (first * 65536 + other) e) ∙ reads.fixed;
-      letters = same_letters (row i).letters (places (row i).pattern) (32 - length (places (row i).pattern)) (first * 65536 + second)
-          (first * 65536 + other) (turned (wanted (row i).letters 45) last.1) e reads.letters;
-    }
-  where
-    turned : (b : Bool) → not b ≡ true → b ≡ false
-    turned true e = absurd cc
-    turned false e = refl
+    grind (arith, nat_tests, both, nat_eq, covered, wanted, row_tests i, short_row, same_stands, same_letters)
 
 -- the words of an instruction, and any word after one of one word, are read as it
 pub reads_words : (i : Instr) (first second : ℕ) → first ≡ first_word i → (words_of i ≡ 2 → second ≡ second_word i) → second < 65536
     → ReadsAt (first * 65536 + second) i
-reads_words i first second is_first is_second small = by_case (nat_le (length (places (row i).pattern)) 16) refl
-  where
-    halves : number_of i / 65536 * 65536 + number_of i % 65536 ≡ number_of i
-    halves = omega arith
-
-    whole : ReadsAt (first_word i * 65536 + second_word i) i
-    whole = subst (λ n. ReadsAt n i) (sym halves) (reads_written i)
-
-    by_case : (t : Bool) → nat_le (length (places (row i).pattern)) 16 ≡ t → ReadsAt (first * 65536 + second) i
-    by_case false e =
-        let two : words_of i ≡ 2 = ap (λ t. cond t 1 2) e in
-        subst (λ n. ReadsAt n i) (sym (ap (λ x. x * 65536 + second) is_first ∙ ap (λ x. first_word i * 65536 + x) (is_second two))) whole
-    by_case true e =
-        let one : words_of i ≡ 1 = ap (λ t. cond t 1 2) e in
-        let low : number_of i % 65536 < 65536 = omega arith in
-        subst (λ n. ReadsAt n i) (sym (ap (λ x. x * 65536 + second) is_first)) (reads_before i (first_word i) (second_word i) second one low
-        small whole)
+reads_words i first second is_first is_second small =
+    grind (
+      arith,
+      nat_tests,
+      nat_le (length (places (row i).pattern)) 16,
+      reads_written i,
+      reads_before i (first_word i) (second_word i) second,
+    )

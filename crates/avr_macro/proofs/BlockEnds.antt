@@ -26,50 +26,39 @@ pub record AreApart (opens closes : Word) : Type 0 where
   pub not_part : (w : Word) → same_word w opens ≡ true → same_word w Else ≡ false
   pub closed : (w : Word) → same_word w closes ≡ true → same_word w Else ≡ false
 
-macro_opened : (w : Word) → same_word w Macro ≡ true → same_word w EndMacro ≡ false
-macro_opened Macro e = refl
-macro_opened w e = absurd cc
+-- words that are the same are one
+one_word : (v w : Word) → same_word v w ≡ true → v ≡ w
+one_word Macro Macro e = refl
+one_word EndMacro EndMacro e = refl
+one_word Repeat Repeat e = refl
+one_word EndRepeat EndRepeat e = refl
+one_word If If e = refl
+one_word Else Else e = refl
+one_word EndIf EndIf e = refl
+one_word Include Include e = refl
+one_word Constant Constant e = refl
+one_word Other Other e = refl
+one_word v w e = absurd cc
 
-macro_part : (w : Word) → same_word w Macro ≡ true → same_word w Else ≡ false
-macro_part Macro e = refl
-macro_part w e = absurd cc
+told_apart : (opens closes w : Word) → same_word opens closes ≡ false → same_word w opens ≡ true → same_word w closes ≡ false
+told_apart opens closes w differ e = cc (one_word w opens e)
 
-macro_closed : (w : Word) → same_word w EndMacro ≡ true → same_word w Else ≡ false
-macro_closed EndMacro e = refl
-macro_closed w e = absurd cc
+apart : (opens closes : Word) → same_word opens closes ≡ false → same_word opens Else ≡ false → same_word closes Else ≡ false
+    → AreApart opens closes
+apart opens closes a b c = record {
+  opened = λ w. told_apart opens closes w a;
+  not_part = λ w. told_apart opens Else w b;
+  closed = λ w. told_apart closes Else w c;
+}
 
 pub macros_apart : AreApart Macro EndMacro
-macros_apart = record { opened = macro_opened; not_part = macro_part; closed = macro_closed }
-
-repeat_opened : (w : Word) → same_word w Repeat ≡ true → same_word w EndRepeat ≡ false
-repeat_opened Repeat e = refl
-repeat_opened w e = absurd cc
-
-repeat_part : (w : Word) → same_word w Repeat ≡ true → same_word w Else ≡ false
-repeat_part Repeat e = refl
-repeat_part w e = absurd cc
-
-repeat_closed : (w : Word) → same_word w EndRepeat ≡ true → same_word w Else ≡ false
-repeat_closed EndRepeat e = refl
-repeat_closed w e = absurd cc
+macros_apart = apart Macro EndMacro refl refl refl
 
 pub repeats_apart : AreApart Repeat EndRepeat
-repeats_apart = record { opened = repeat_opened; not_part = repeat_part; closed = repeat_closed }
-
-if_opened : (w : Word) → same_word w If ≡ true → same_word w EndIf ≡ false
-if_opened If e = refl
-if_opened w e = absurd cc
-
-if_part : (w : Word) → same_word w If ≡ true → same_word w Else ≡ false
-if_part If e = refl
-if_part w e = absurd cc
-
-if_closed : (w : Word) → same_word w EndIf ≡ true → same_word w Else ≡ false
-if_closed EndIf e = refl
-if_closed w e = absurd cc
+repeats_apart = apart Repeat EndRepeat refl refl refl
 
 pub ifs_apart : AreApart If EndIf
-ifs_apart = record { opened = if_opened; not_part = if_part; closed = if_closed }
+ifs_apart = apart If EndIf refl refl refl
 
 -- ---- the ends
 
@@ -106,23 +95,15 @@ depth_by o c d = cond o (d + 1) (cond c (d - 1) d)
 end_step : (o c e : Bool) → (o ≡ true → c ≡ false) → (at d : ℕ) (pending : List Closing) (found : ℕ → Option ℕ)
     → ((k : ℕ) → end_of (slice_get pending k) ≡ further (at + 1) (found k))
     → end_of (slice_get (open_by o c e at pending) d) ≡ further at (cond (is_zero d && c) (Some 0) (one_more (found (depth_by o c d))))
-end_step true true e apart at d pending found is = absurd (true_not_false (apart refl))
-  where
-    true_not_false : true ≡ false → ⊥
-    true_not_false e = absurd cc
+end_step true true e apart at d pending found is = grind (arith, nat_tests)
 end_step true false e apart at d pending found is =
-    ap end_of (dropped d pending) ∙ is (suc d) ∙ ap (λ k. further (at + 1) (found k)) (sym (add-one d)) ∙ one_further at (found (d + 1))
-    ∙ sym (ap (λ t. further at (cond t (Some 0) (one_more (found (d + 1))))) (and_false (is_zero d)))
+    cc (dropped d pending, is (suc d), add-one d, one_further at (found (d + 1)), and_false (is_zero d))
 end_step false true e apart at zero pending found is = ap Some (omega arith)
 end_step false true e apart at (suc d) pending found is =
     let less : suc d - 1 ≡ d = omega arith in
-    is d ∙ one_further at (found d) ∙ sym (ap (λ k. further at (one_more (found k))) less)
-    ∙ sym (ap (λ t. further at (cond (t && true) (Some 0) (one_more (found (suc d - 1))))) (not_zero d))
-end_step false false true apart at d pending found is =
-    parted_end at d pending ∙ is d ∙ one_further at (found d)
-    ∙ sym (ap (λ t. further at (cond t (Some 0) (one_more (found d)))) (and_false (is_zero d)))
-end_step false false false apart at d pending found is =
-    is d ∙ one_further at (found d) ∙ sym (ap (λ t. further at (cond t (Some 0) (one_more (found d)))) (and_false (is_zero d)))
+    cc (is d, one_further at (found d), not_zero d)
+end_step false false true apart at d pending found is = cc (parted_end at d pending, is d, one_further at (found d), and_false (is_zero d))
+end_step false false false apart at d pending found is = cc (is d, one_further at (found d), and_false (is_zero d))
 
 -- the end of a block that is so many further blocks out
 pub ends_found : (opens closes : Word) → AreApart opens closes → (lines : List (List ℕ)) (at d : ℕ)
@@ -130,8 +111,7 @@ pub ends_found : (opens closes : Word) → AreApart opens closes → (lines : Li
 unfolding lines_before open_from
 ends_found opens closes apart [] at d = refl
 ends_found opens closes apart (line ∷ lines) at d =
-    end_step (same_word (directive_of line) opens) (same_word (directive_of line) closes) (same_word (directive_of line) Else)
-    (apart.opened (directive_of line)) at d (open_from opens closes (at + 1) lines) (λ k. lines_before closes opens closes k lines)
+    end_step _ _ _ (apart.opened (directive_of line)) _ _ _ (λ k. lines_before closes opens closes k lines)
     (λ k. ends_found opens closes apart lines (at + 1) k)
 
 -- ---- the parts
@@ -149,9 +129,7 @@ one_in_front : (opens closes : Word) (line : List ℕ) (lines : List (List ℕ))
     ≡ cond (is_zero d && same_word (directive_of line) Else) (Some 0)
     (one_more (lines_before Else opens closes (line_depth (directive_of line) opens closes d) (take (end - (at + 1)) lines)))
 unfolding lines_before
-one_in_front opens closes line lines at d end h =
-    let n : end - at ≡ suc (end - (at + 1)) = omega (arith, h) in
-    ap (λ k. lines_before Else opens closes d (take k (line ∷ lines))) n
+one_in_front opens closes line lines at d end h = let n : end - at ≡ suc (end - (at + 1)) = omega (arith, h) in cc
 
 part_goes_on : (at : ℕ) (closing : Option Closing) (found front : ℕ → Option ℕ)
     → ((end : ℕ) → at + 1 ≤ end → front (end - at) ≡ one_more (found (end - (at + 1))))
@@ -167,46 +145,37 @@ part_step : (o c e : Bool) → (o ≡ true → c ≡ false) → (o ≡ true → 
     → ((k : ℕ) → HasPart (at + 1) (slice_get pending k) (found k))
     → HasPart at (slice_get (open_by o c e at pending) d) front
 part_step true c e oc oe ce at d pending found front none f is =
-    subst (λ x. HasPart at x front) (sym (dropped d pending))
-    (part_goes_on at (slice_get pending (suc d)) (found (suc d)) front
+    subst (λ x. HasPart at x front) (sym (dropped d pending)) (part_goes_on _ _ (found (suc d)) front
     (λ end h. f end h ∙ ap (λ t. cond (is_zero d && t) (Some 0) (one_more (found (d + 1) (end - (at + 1))))) (oe refl)
-    ∙ ap (λ t. cond t (Some 0) (one_more (found (d + 1) (end - (at + 1))))) (and_false (is_zero d))
-    ∙ ap (λ k. one_more (found k (end - (at + 1)))) (add-one d))
-    (is (suc d)))
+    ∙ ap (λ t. cond t (Some 0) (one_more (found (d + 1) (end - (at + 1))))) (and_false _)
+    ∙ ap (λ k. one_more (found k (end - (at + 1)))) (add-one d)) (is (suc d)))
 part_step false true e oc oe ce at zero pending found front none f is =
     let n : at - at ≡ 0 = omega arith in
     (omega arith, sym (ap (λ k. further at (front k)) n ∙ ap (further at) none))
 part_step false true e oc oe ce at (suc d) pending found front none f is =
     let less : suc d - 1 ≡ d = omega arith in
-    part_goes_on at (slice_get pending d) (found d) front
-    (λ end h. f end h ∙ ap (λ t. cond (t && e) (Some 0) (one_more (found (suc d - 1) (end - (at + 1))))) (not_zero d)
-    ∙ ap (λ k. one_more (found k (end - (at + 1)))) less)
-    (is d)
-part_step false false true oc oe ce at zero [] found front none f is = tt
+    part_goes_on _ _ (found d) front
+    (λ end h. f end h ∙ ap (λ t. cond (t && e) (Some 0) (one_more (found (suc d - 1) (end - (at + 1))))) (not_zero _)
+    ∙ ap (λ k. one_more (found k (end - (at + 1)))) less) (is d)
 part_step false false true oc oe ce at zero (c ∷ pending) found front none f is =
     let order : at ≤ c.end = omega (arith, (is 0).0) in
     (order, sym (ap (further at) (f c.end (is 0).0) ∙ ap Some (omega arith)))
-part_step false false true oc oe ce at (suc d) [] found front none f is = tt
 part_step false false true oc oe ce at (suc d) (c ∷ pending) found front none f is =
-    part_goes_on at (slice_get pending d) (found (suc d)) front
-    (λ end h. f end h ∙ ap (λ t. cond (t && true) (Some 0) (one_more (found (suc d) (end - (at + 1))))) (not_zero d))
-    (is (suc d))
+    part_goes_on _ _ (found (suc d)) front
+    (λ end h. f end h ∙ ap (λ t. cond (t && true) (Some 0) (one_more (found (suc d) (end - (at + 1))))) (not_zero _)) (is (suc d))
 part_step false false false oc oe ce at d pending found front none f is =
-    part_goes_on at (slice_get pending d) (found d) front
-    (λ end h. f end h ∙ ap (λ t. cond t (Some 0) (one_more (found d (end - (at + 1))))) (and_false (is_zero d)))
+    part_goes_on _ _ (found d) front (λ end h. f end h ∙ ap (λ t. cond t (Some 0) (one_more (found d (end - (at + 1))))) (and_false _))
     (is d)
+part_step false false true oc oe ce at other [] found front none f is = tt
 
 pub parts_found : (opens closes : Word) → AreApart opens closes → (lines : List (List ℕ)) (at d : ℕ)
     → PartsIn opens closes at d lines (slice_get (open_from opens closes at lines) d)
 unfolding lines_before open_from
 parts_found opens closes apart [] at d = tt
 parts_found opens closes apart (line ∷ lines) at d =
-    part_step (same_word (directive_of line) opens) (same_word (directive_of line) closes) (same_word (directive_of line) Else)
-    (apart.opened (directive_of line)) (apart.not_part (directive_of line)) (apart.closed (directive_of line)) at d
-    (open_from opens closes (at + 1) lines) (λ k n. lines_before Else opens closes k (take n lines))
-    (λ n. lines_before Else opens closes d (take n (line ∷ lines))) refl
-    (λ end h. one_in_front opens closes line lines at d end h)
-    (λ k. parts_found opens closes apart lines (at + 1) k)
+    part_step _ _ _ (apart.opened (directive_of line)) (apart.not_part (directive_of line)) (apart.closed (directive_of line)) _ _
+    _ (λ k n. lines_before Else opens closes k (take n lines)) (λ n. lines_before Else opens closes d (take n (line ∷ lines))) refl
+    (λ end h. one_in_front _ _ _ _ _ _ _ h) (λ k. parts_found opens closes apart lines (at + 1) k)
 
 -- ---- one line after another, from the last one back
 
@@ -225,11 +194,7 @@ pub open_more : (opens closes word : Word) (lines : List (List ℕ)) (n before :
 unfolding open_from
 open_more opens closes word lines n before line old new some within e l w o is =
     let next : before + 1 ≡ n = omega arith in
-    let first = get_or lines before [] in
-    is ∙ ap (λ k. open_before k opens closes before old) (w ∙ ap directive_of l)
-    ∙ ap (open_before (directive_of first) opens closes before) (o ∙ ap (λ k. open_from opens closes k (drop k lines)) (sym next))
-    ∙ ap (λ k. open_before (directive_of first) opens closes before (open_from opens closes (before + 1) (drop k lines))) (add-one before)
-    ∙ sym (ap (open_from opens closes before) (drop-cons lines before [] (omega arith)))
+    cc (add-one before, drop-cons lines before [] (omega arith))
 
 pub closed_more : (opens closes word : Word) (lines : List (List ℕ)) (n before : ℕ) (line : List ℕ) (outer : List Closing)
     (old new : List Block) → 0 < n → n ≤ length lines → before ≡ n - 1 → line ≡ get_or lines before [] → word ≡ directive_of line
@@ -238,14 +203,7 @@ pub closed_more : (opens closes word : Word) (lines : List (List ℕ)) (n before
 unfolding blocks_from
 closed_more opens closes word lines n before line outer old new some within e l w o b is =
     let next : before + 1 ≡ n = omega arith in
-    let first = get_or lines before [] in
-    is ∙ ap (λ k. blocks_before k opens before outer old) (w ∙ ap directive_of l)
-    ∙ ap (λ k. blocks_before (directive_of first) opens before k old) (o ∙ ap (λ k. open_from opens closes k (drop k lines)) (sym next))
-    ∙ ap (blocks_before (directive_of first) opens before (open_from opens closes (before + 1) (drop (before + 1) lines)))
-    (b ∙ ap (λ k. blocks_from opens closes k (drop k lines)) (sym next))
-    ∙ ap (λ k. blocks_before (directive_of first) opens before (open_from opens closes (before + 1) (drop k lines))
-    (blocks_from opens closes (before + 1) (drop k lines))) (add-one before)
-    ∙ sym (ap (blocks_from opens closes before) (drop-cons lines before [] (omega arith)))
+    cc (add-one before, drop-cons lines before [] (omega arith))
 
 -- ---- the list of blocks
 
@@ -261,18 +219,12 @@ rises_less least less (b ∷ bs) h r = (omega (arith, h, r.0), r.1)
 before_rises : (w : Word) (opens : Word) (at : ℕ) (pending : List Closing) (bs : List Block) → RisesFrom (at + 1) bs
     → RisesFrom at (blocks_before w opens at pending bs)
 before_rises w opens at [] bs r = rises_less (at + 1) at bs (omega arith) r
-before_rises w opens at (c ∷ pending) bs r = by_word (same_word w opens)
-  where
-    by_word : (t : Bool) → RisesFrom at (cond t (record { line = at; closing = c } ∷ bs) bs)
-    by_word true = (omega arith, r)
-    by_word false = rises_less (at + 1) at bs (omega arith) r
+before_rises w opens at (c ∷ pending) bs r = grind (arith, nat_tests, rises_less (at + 1) at bs (omega arith) r)
 
 blocks_rise : (opens closes : Word) (lines : List (List ℕ)) (at : ℕ) → RisesFrom at (blocks_from opens closes at lines)
 unfolding blocks_from
 blocks_rise opens closes [] at = tt
-blocks_rise opens closes (line ∷ lines) at =
-    before_rises (directive_of line) opens at (open_from opens closes (at + 1) lines) (blocks_from opens closes (at + 1) lines)
-    (blocks_rise opens closes lines (at + 1))
+blocks_rise opens closes (line ∷ lines) at = before_rises _ _ _ _ _ (blocks_rise opens closes lines (at + 1))
 
 least_line : (least : ℕ) (bs : List Block) → RisesFrom least bs → (j : ℕ) (d : Block) → j < length bs → least ≤ (get_or bs j d).line
 least_line least [] r j d h = absurd (omega (arith, h))
@@ -320,19 +272,14 @@ none_later least line (b ∷ bs) h r =
 here : (w opens : Word) (at : ℕ) (pending : List Closing) (bs : List Block) → same_word w opens ≡ true → RisesFrom (at + 1) bs
     → closing_at at (blocks_before w opens at pending bs) ≡ slice_get pending 0
 here w opens at [] bs is r = none_later (at + 1) at bs (omega arith) r
-here w opens at (c ∷ pending) bs is r =
-    ap (closing_at at) (the_one (same_word w opens) (record { line = at; closing = c } ∷ bs) bs is)
-    ∙ the_one (eqb at at) (Some c) (closing_at at bs) (is_itself at)
+here w opens at (c ∷ pending) bs is r = ap (closing_at at) (the_one _ _ _ is) ∙ the_one _ _ (closing_at at bs) (is_itself at)
 
 -- one that begins later
 further_on : (w opens : Word) (at line : ℕ) (pending : List Closing) (bs : List Block) → at < line
     → closing_at line (blocks_before w opens at pending bs) ≡ closing_at line bs
 further_on w opens at line [] bs h = refl
-further_on w opens at line (c ∷ pending) bs h = by_word (same_word w opens)
-  where
-    by_word : (t : Bool) → closing_at line (cond t (record { line = at; closing = c } ∷ bs) bs) ≡ closing_at line bs
-    by_word true = other (eqb at line) (Some c) (closing_at line bs) (below_not at line h)
-    by_word false = refl
+further_on w opens at line (c ∷ pending) bs h =
+    grind (arith, nat_tests, other (eqb at line) (Some c) (closing_at line bs) (below_not at line h), below_not at line h)
 
 -- a block that begins so many lines further on is closed where its end is found
 block_found : (opens closes : Word) (lines : List (List ℕ)) (at k : ℕ) → k < length lines
@@ -342,9 +289,7 @@ unfolding blocks_from
 block_found opens closes [] at k h is = absurd (omega (arith, h))
 block_found opens closes (line ∷ lines) at zero h is =
     let place : at + 0 ≡ at = omega arith in
-    ap (λ n. closing_at n (blocks_from opens closes at (line ∷ lines))) place
-    ∙ here (directive_of line) opens at (open_from opens closes (at + 1) lines) (blocks_from opens closes (at + 1) lines) is
-    (blocks_rise opens closes lines (at + 1))
+    ap (λ n. closing_at n (blocks_from opens closes at (line ∷ lines))) place ∙ here _ _ _ _ _ is (blocks_rise _ _ _ _)
     ∙ ap (λ n. slice_get (open_from opens closes (n + 1) lines) 0) (sym place)
 block_found opens closes (line ∷ lines) at (suc k) h is =
     let place : at + suc k ≡ (at + 1) + k = omega arith in
@@ -366,9 +311,7 @@ above a n f g = grind (arith, nat_tests)
 
 none_above : (bs : List Block) (n : ℕ) → ((j : ℕ) (d : Block) → j < length bs → n < (get_or bs j d).line) → closing_at n bs ≡ None
 none_above [] n h = refl
-none_above (b ∷ bs) n h =
-    other (eqb b.line n) (Some b.closing) (closing_at n bs) (above_not b.line n (h 0 b (omega arith)))
-    ∙ none_above bs n (λ j d k. h (suc j) d (omega (arith, k)))
+none_above (b ∷ bs) n h = other _ _ _ (above_not _ _ (h 0 b (omega arith))) ∙ none_above bs n (λ j d k. h (suc j) d (omega (arith, k)))
 
 pub closing_found : (bs : List Block) (n i : ℕ) → IsNonDecreasingBy (λ b. b.line) bs → AllWithin (λ b. ltb b.line n ≡ true) bs 0 i
     → AllWithin (λ b. ltb b.line n ≡ false) bs i (length bs) → closing_here n (slice_get bs i) ≡ closing_at n bs
@@ -380,15 +323,13 @@ closing_found (b ∷ bs) n zero sorted before after = by_test (eqb b.line n) ref
     by_test true f = rw f refl
     by_test false f =
         let high = above b.line n (after 0 b (lit≤ tt) (omega arith)) f in
-        other (eqb b.line n) (Some b.closing) None f
-        ∙ sym (other (eqb b.line n) (Some b.closing) (closing_at n bs) f
-        ∙ none_above bs n (λ j d k. (let later = sorted 0 (suc j) d (omega arith) (omega (arith, k)) in omega (arith, high, later))))
+        let none = none_above bs n (λ j d k.
+        (let later = sorted 0 (suc j) d (omega arith) (omega (arith, k)) in omega (arith, high, later))) in
+        cc
 closing_found (b ∷ bs) n (suc i) sorted before after =
-    closing_found bs n i
-    (λ j k d h g. sorted (suc j) (suc k) d (omega (arith, h)) (omega (arith, g)))
-    (λ j d h g. before (suc j) d (omega arith) (omega (arith, g)))
-    (λ j d h g. after (suc j) d (omega (arith, h)) (omega (arith, g)))
-    ∙ sym (other (eqb b.line n) (Some b.closing) (closing_at n bs) (not_equal b.line n (before 0 b (omega arith) (omega arith))))
+    closing_found bs n i (λ j k d h g. sorted (suc j) (suc k) d (omega (arith, h)) (omega (arith, g)))
+    (λ j d h g. before (suc j) d (omega arith) (omega (arith, g))) (λ j d h g. after (suc j) d (omega (arith, h)) (omega (arith, g)))
+    ∙ sym (other _ _ _ (not_equal _ _ (before 0 b (omega arith) (omega arith))))
 
 -- ---- the end within a level
 
@@ -399,26 +340,14 @@ within size (Some n) = cond (ltb n size) (Some n) None
 
 within_more : (size : ℕ) (o : Option ℕ) → one_more (within size o) ≡ within (suc size) (one_more o)
 within_more size None = refl
-within_more size (Some n) = by_test (ltb n size) (ltb (n + 1) (suc size)) (same_test n size)
-  where
-    same_test : (n size : ℕ) → ltb (n + 1) (suc size) ≡ ltb n size
-    same_test n size = grind (arith, nat_tests)
-
-    by_test : (a b : Bool) → b ≡ a → one_more (cond a (Some n) None) ≡ cond b (Some (n + 1)) None
-    by_test true true e = refl
-    by_test true false e = absurd cc
-    by_test false true e = absurd cc
-    by_test false false e = refl
+within_more size (Some n) = grind (arith, nat_tests)
 
 zero_in : (size : ℕ) → ltb 0 (suc size) ≡ true
 zero_in size = grind (arith, nat_tests)
 
 none_in_none : (o : Option ℕ) → within 0 o ≡ None
 none_in_none None = refl
-none_in_none (Some n) = other (ltb n 0) (Some n) None (none_below n)
-  where
-    none_below : (n : ℕ) → ltb n 0 ≡ false
-    none_below n = grind (arith, nat_tests)
+none_in_none (Some n) = grind (arith, nat_tests, other (ltb n 0) (Some n) None)
 
 pub first_lines : (wanted opens closes : Word) (lines : List (List ℕ)) (size d : ℕ)
     → lines_before wanted opens closes d (take size lines) ≡ within size (lines_before wanted opens closes d lines)
@@ -427,10 +356,7 @@ first_lines wanted opens closes [] zero d = refl
 first_lines wanted opens closes [] (suc size) d = refl
 first_lines wanted opens closes (line ∷ lines) zero d = sym (none_in_none (lines_before wanted opens closes d (line ∷ lines)))
 first_lines wanted opens closes (line ∷ lines) (suc size) d =
-    by_test (is_zero d && same_word (directive_of line) wanted) (lines_before wanted opens closes (line_depth
-    (directive_of line) opens closes d) lines)
-    (lines_before wanted opens closes (line_depth (directive_of line) opens closes d) (take size lines))
-    (first_lines wanted opens closes lines size (line_depth (directive_of line) opens closes d))
+    by_test (is_zero d && same_word (directive_of line) wanted) _ _ (first_lines wanted opens closes lines size _)
   where
     by_test : (t : Bool) (o p : Option ℕ) → p ≡ within size o
         → cond t (Some 0) (one_more p) ≡ within (suc size) (cond t (Some 0) (one_more o))
@@ -441,110 +367,51 @@ first_lines wanted opens closes (line ∷ lines) (suc size) d =
 
 same_itself : (w : Word) → same_word w w ≡ true
 same_itself Macro = refl
-same_itself EndMacro = refl
-same_itself Repeat = refl
-same_itself EndRepeat = refl
-same_itself If = refl
-same_itself Else = refl
-same_itself EndIf = refl
-same_itself Include = refl
-same_itself Constant = refl
-same_itself Other = refl
+same_itself other = refl
 
 same_bool : (a b : Bool) → (a ≡ true → b ≡ true) → (b ≡ true → a ≡ true) → a ≡ b
-same_bool true true f g = refl
 same_bool true false f g = sym (f refl)
 same_bool false true f g = g refl
-same_bool false false f g = refl
+same_bool other rest f g = refl
 
 lies_within : (start end e m : ℕ) → e ≡ start + m → (leb start e && ltb e end) ≡ ltb m (end - start)
-lies_within start end e m is = after (leb start e) starts (same_bool (ltb e end) (ltb m (end - start)) inner outer)
-  where
-    starts : leb start e ≡ true
-    starts = grind (arith, nat_tests)
-
-    inner : ltb e end ≡ true → ltb m (end - start) ≡ true
-    inner f = grind (arith, nat_tests)
-
-    outer : ltb m (end - start) ≡ true → ltb e end ≡ true
-    outer f = grind (arith, nat_tests)
-
-    after : (a : Bool) → a ≡ true → ltb e end ≡ ltb m (end - start) → (a && ltb e end) ≡ ltb m (end - start)
-    after true e f = f
-    after false e f = absurd cc
+lies_within start end e m is = grind (arith, nat_tests, same_bool (ltb e end) (ltb m (end - start)))
 
 end_within : (start end : ℕ) (o : Option Closing) (found : Option ℕ) → end_of o ≡ further start found
     → end_of (closing_within start end o) ≡ within (end - start) found
 end_within start end None None e = refl
-end_within start end None (Some m) e = absurd cc
-end_within start end (Some c) None e = absurd cc
-end_within start end (Some c) (Some m) e =
-    let is : c.end ≡ start + m = cc in
-    by_test (leb start c.end && ltb c.end end) (ltb m (end - start)) (lies_within start end c.end m is) (omega (arith, is))
-  where
-    by_test : (a b : Bool) → a ≡ b → c.end - start ≡ m
-        → end_of (cond a (Some (record { end = c.end - start; part = part_within start c.part })) None) ≡ cond b (Some m) None
-    by_test true true f g = ap Some g
-    by_test true false f g = absurd cc
-    by_test false true f g = absurd cc
-    by_test false false f g = refl
+end_within start end (Some c) (Some m) e = grind (arith, nat_tests, lies_within start end c.end m)
+end_within start end other rest e = absurd cc
 
 part_back : (start : ℕ) (o part : Option ℕ) → part ≡ further start o → part_within start part ≡ o
 part_back start None None e = refl
-part_back start None (Some m) e = absurd cc
-part_back start (Some n) None e = absurd cc
-part_back start (Some n) (Some m) e =
-    let is : m ≡ start + n = cc in
-    let less : m - start ≡ n = omega (arith, is) in
-    the_one (leb start m) (Some (m - start)) None (test start m n is) ∙ ap Some less
-  where
-    test : (start m n : ℕ) → m ≡ start + n → leb start m ≡ true
-    test start m n e = grind (arith, nat_tests)
+part_back start (Some n) (Some m) e = grind (arith, nat_tests, the_one (leb start m) (Some (m - start)) None)
+part_back start other rest e = absurd cc
 
 closing_told : (P : Closing → Type 0) (start end : ℕ) (o : Option Closing)
     → IfSome o (λ (c : Closing). start ≤ c.end → c.end < end → P (record { end = c.end - start; part = part_within start c.part }))
     → IfSome (closing_within start end o) P
 closing_told P start end None h = tt
-closing_told P start end (Some c) h = by_test (leb start c.end) (ltb c.end end) refl refl
-  where
-    first : leb start c.end ≡ true → start ≤ c.end
-    first e = grind (arith, nat_tests)
-
-    last : ltb c.end end ≡ true → c.end < end
-    last e = grind (arith, nat_tests)
-
-    by_test : (a b : Bool) → leb start c.end ≡ a → ltb c.end end ≡ b
-        → IfSome (cond (a && b) (Some (record { end = c.end - start; part = part_within start c.part })) None) P
-    by_test true true e f = h (first e) (last f)
-    by_test true false e f = tt
-    by_test false b e f = tt
+closing_told P start end (Some c) h = grind (arith, nat_tests)
 
 -- what is found at the first line of a block
 found_here : (opens closes : Word) (xs : List (List ℕ)) (at : ℕ) → at < length xs → directive_of (get_or xs at []) ≡ opens
     → closing_at at (blocks_from opens closes 0 xs) ≡ slice_get (open_from opens closes (at + 1) (drop (at + 1) xs)) 0
 found_here opens closes xs at h begins =
     let zero_more : 0 + at ≡ at = omega arith in
-    ap (λ n. closing_at n (blocks_from opens closes 0 xs)) (sym zero_more)
-    ∙ block_found opens closes xs 0 at h (ap (λ w. same_word w opens) begins ∙ same_itself opens)
-    ∙ ap (λ n. slice_get (open_from opens closes (n + 1) (drop (at + 1) xs)) 0) zero_more
+    cc (block_found opens closes xs 0 at h (ap (λ w. same_word w opens) begins ∙ same_itself opens))
 
 pub level_end : (opens closes : Word) → AreApart opens closes → (xs : List (List ℕ)) (at end : ℕ) (o : Option Closing) → at < end
     → end ≤ length xs → directive_of (get_or xs at []) ≡ opens → o ≡ closing_at at (blocks_from opens closes 0 xs)
     → end_of (closing_within (at + 1) end o) ≡ lines_before closes opens closes 0 (drop 1 (slice_range xs at end))
 level_end opens closes apart xs at end o h inside begins is =
     let rest = drop (at + 1) xs in
-    end_within (at + 1) end o (lines_before closes opens closes 0 rest)
-    (ap end_of (is ∙ found_here opens closes xs at (omega arith) begins) ∙ ends_found opens closes apart rest (at + 1) 0)
-    ∙ sym (first_lines closes opens closes rest (end - (at + 1)) 0)
-    ∙ ap (lines_before closes opens closes 0) (after_next xs at end (at + 1) refl h)
+    end_within _ _ _ _ (ap end_of (is ∙ found_here _ _ _ _ (omega arith) begins) ∙ ends_found _ _ apart _ _ _)
+    ∙ sym (first_lines _ _ _ _ _ _) ∙ ap (lines_before closes opens closes 0) (after_next _ _ _ _ refl h)
 
 pub level_within : (start at end : ℕ) (o : Option Closing) → start ≡ at + 1
     → IfSome (closing_within start end o) (λ (c : Closing). at + (c.end + 2) ≤ end)
-level_within start at end o e = closing_told (λ c. at + (c.end + 2) ≤ end) start end o (each o)
-  where
-    each : (o : Option Closing) → IfSome o (λ (c : Closing). start ≤ c.end → c.end < end → at + ((c.end - start) + 2) ≤ end)
-    each None = tt
-    each (Some c) = λ f g. omega (arith, e, f, g)
+level_within start at end o e = grind (arith, nat_tests, closing_told)
 
 pub level_part : (opens closes : Word) → AreApart opens closes → (xs : List (List ℕ)) (at end : ℕ) (o : Option Closing) → at < end
     → end ≤ length xs → directive_of (get_or xs at []) ≡ opens → o ≡ closing_at at (blocks_from opens closes 0 xs)
@@ -573,13 +440,7 @@ pub found_among : (wanted opens closes : Word) (xs : List (List ℕ)) (d : ℕ)
 unfolding lines_before
 found_among wanted opens closes [] d = tt
 found_among wanted opens closes (x ∷ xs) d =
-    by_test (is_zero d && same_word (directive_of x) wanted) (lines_before wanted opens closes (line_depth
-    (directive_of x) opens closes d) xs) (found_among wanted opens closes xs (line_depth (directive_of x) opens closes d))
-  where
-    by_test : (t : Bool) (o : Option ℕ) → IfSome o (λ n. n < length xs) → IfSome (cond t (Some 0) (one_more o)) (λ n. n < suc (length xs))
-    by_test true o h = omega arith
-    by_test false None h = tt
-    by_test false (Some n) h = omega (arith, h)
+    grind (arith, nat_tests, found_among wanted opens closes xs (line_depth (directive_of x) opens closes d))
 
 pub part_inside : (opens closes : Word) (xs : List (List ℕ)) (n : ℕ) (part : Option ℕ)
     → part ≡ lines_before Else opens closes 0 (slice_range xs 0 n)
@@ -605,12 +466,13 @@ pub record AreTold (opens closes : Word) (xs : List (List ℕ)) (at end : ℕ) (
       (λ (c : Closing). c.part ≡ lines_before Else opens closes 0 (slice_range (drop 1 (slice_range xs at end)) 0 c.end))
   pub inside : IfSome told (λ (c : Closing). IfSome c.part (λ m. m < c.end))
 
-pub are_told : (opens closes : Word) → AreApart opens closes → (xs : List (List ℕ)) (at end : ℕ) (o told : Option Closing) → at < end
-    → end ≤ length xs → directive_of (get_or xs at []) ≡ opens → o ≡ closing_at at (blocks_from opens closes 0 xs)
+pub are_told : (opens closes : Word) → AreApart opens closes → (xs text : List (List ℕ)) (at end : ℕ) (o told : Option Closing) → at < end
+    → end ≤ length xs → directive_of (get_or xs at []) ≡ opens → o ≡ closing_at at (blocks_from opens closes 0 text) → text ≡ xs
     → told ≡ closing_within (at + 1) end o → AreTold opens closes xs at end told
-are_told opens closes apart xs at end o told h inside begins is e =
+are_told opens closes apart xs text at end o told h inside begins found same e =
+    let is : o ≡ closing_at at (blocks_from opens closes 0 xs) = cc in
     let parts = level_part opens closes apart xs at end o h inside begins is in
-    subst (λ x. AreTold opens closes xs at end x) (sym e) (record {
+    rw e (record {
       place = level_end opens closes apart xs at end o h inside begins is;
       within = level_within (at + 1) at end o refl;
       parted = parts;
@@ -625,8 +487,4 @@ are_told opens closes apart xs at end o told h inside begins is e =
 
 pub ends_within : (at end : ℕ) (o : Option Closing) (r : Option ℕ) → r ≡ end_of o → IfSome o (λ (c : Closing). at + (c.end + 2) ≤ end)
     → IfSome r (λ n. at + (n + 2) ≤ end)
-ends_within at end o r e h = subst (λ x. IfSome x (λ n. at + (n + 2) ≤ end)) (sym e) (each o h)
-  where
-    each : (o : Option Closing) → IfSome o (λ (c : Closing). at + (c.end + 2) ≤ end) → IfSome (end_of o) (λ n. at + (n + 2) ≤ end)
-    each None h = tt
-    each (Some c) h = h
+ends_within at end o r e h = grind (arith, nat_tests)

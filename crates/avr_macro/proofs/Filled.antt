@@ -1,6 +1,5 @@
 -- Lines in a call, or as they are.
-use Rattle.std.proofs.Common.{◌≡◌, ℕ, zero, suc, ◌-◌, ◌<◌, true, List, [], ◌∷◌, length, get_or, take, drop, map, refl, sym, ◌∙◌, ap}
-use Rattle.std.proofs.Common.{arith}
+use Rattle.std.proofs.Common.{◌≡◌, ℕ, zero, suc, ◌-◌, ◌<◌, true, List, [], ◌∷◌, length, get_or, take, drop, map, refl, sym, ◌∙◌, ap, arith}
 use Rattle.std.specs.Prelude.{Option, Some, None}
 use Rattle.std.specs.List.{slice_range}
 use Rattle.std.proofs.lemmas.List.{drop-map, length-map, take-map}
@@ -41,15 +40,15 @@ plain_range : (s : Option Substitution) (xs shown : Texts) (start end : ℕ) →
     → are_plain (slice_range xs start end) ≡ true → slice_range xs start end ≡ slice_range shown start end
 plain_range None xs shown start end e h = ap (λ ls. slice_range ls start end) e
 plain_range (Some s) xs shown start end e h =
-    sym (lines_stay s.arguments s.call (slice_range xs start end) (plain_settled (slice_range xs start end) h))
-    ∙ sym (mapped_range (replaced s.arguments s.call) xs start end)
-    ∙ ap (λ ls. slice_range ls start end) e
+    cc (
+      lines_stay s.arguments s.call (slice_range xs start end) (plain_settled (slice_range xs start end) h),
+      mapped_range (replaced s.arguments s.call) xs start end,
+    )
 
 -- no call changes those without `@`, nor those of a call whose arguments have none
 pub plain_stay : (s : Option Substitution) (xs shown : Texts) (start end : ℕ) → filled s xs ≡ shown
     → are_plain (slice_range xs start end) ≡ true → are_settled (slice_range shown start end) ≡ true
-plain_stay s xs shown start end e h =
-    ap are_settled (sym (plain_range s xs shown start end e h)) ∙ plain_settled (slice_range xs start end) h
+plain_stay s xs shown start end e h = cc (plain_range s xs shown start end e h, plain_settled (slice_range xs start end) h)
 
 pub filled_stay : (s : Option Substitution) (xs shown : Texts) (start end : ℕ) → filled s xs ≡ shown → puts_plain s ≡ true
     → are_settled (slice_range shown start end) ≡ true

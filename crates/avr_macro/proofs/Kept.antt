@@ -22,11 +22,10 @@ line_by_place text (end ∷ ends) start zero h = refl
 line_by_place text (end ∷ ends) start (suc n) h = line_by_place text ends end n (omega (arith, h))
 
 pub start_before : (ends : List ℕ) (start n : ℕ) → n < length ends → start_in start ends (suc n) ≡ get_or ends n 0
-start_before [] start n h = absurd (omega (arith, h))
 start_before (end ∷ []) start zero h = refl
 start_before (end ∷ next ∷ ends) start zero h = refl
-start_before (end ∷ []) start (suc n) h = absurd (omega (arith, h))
 start_before (end ∷ next ∷ ends) start (suc n) h = start_before (next ∷ ends) end n (omega (arith, h))
+start_before other start n h = absurd (omega (arith, h))
 
 pub first_start : (ends : List ℕ) (start n : ℕ) → n ≡ 0 → start_in start ends n ≡ start
 first_start ends start zero e = refl
@@ -79,27 +78,21 @@ last_part text more =
 
 lines_more : (text more ends : List ℕ) (start : ℕ) → RiseTo (length text) start ends
     → lines_in (text ++ more) start (ends ++ length (text ++ more) ∷ []) ≡ lines_in text start ends ++ more ∷ []
-lines_more text more [] start r =
-    ap (λ k. slice_range (text ++ more) k (length (text ++ more)) ∷ []) r ∙ ap (λ l. l ∷ []) (last_part text more)
+lines_more text more [] start r = cc (last_part text more)
 lines_more text more (end ∷ ends) start r =
-    ap (λ l. l ∷ lines_in (text ++ more) end (ends ++ length (text ++ more) ∷ [])) (part_stays text more start end r.0
-    (start_within (length text) end ends r.1))
-    ∙ ap (λ ls. slice_range text start end ∷ ls) (lines_more text more ends end r.1)
+    cc (part_stays text more start end r.0 (start_within (length text) end ends r.1), lines_more text more ends end r.1)
 
 -- lines with one more
 pub line_added : (text more line ends later : List ℕ) (size : ℕ) (ls : List (List ℕ)) → RiseTo (length text) 0 ends
     → lines_in text 0 ends ≡ ls → more ≡ text ++ line → size ≡ length more → later ≡ ends ++ size ∷ []
     → lines_in more 0 later ≡ ls ++ line ∷ []
-line_added text more line ends later size ls r v e s f =
-    ap (lines_in more 0) f ∙ ap (λ k. lines_in more 0 (ends ++ k ∷ [])) s ∙ ap (λ t. lines_in t 0 (ends ++ length t ∷ [])) e
-    ∙ lines_more text line ends 0 r ∙ ap (λ ls. ls ++ line ∷ []) v
+line_added text more line ends later size ls r v e s f = cc (lines_more text line ends 0 r)
 
 pub rise_added : (text more line ends later : List ℕ) (size : ℕ) → RiseTo (length text) 0 ends → more ≡ text ++ line → size ≡ length more
     → later ≡ ends ++ size ∷ [] → RiseTo (length more) 0 later
 rise_added text more line ends later size r e s f =
     let longer : length text ≤ size = omega (arith, s, ap length e, length-append text line) in
-    subst (λ es. RiseTo (length more) 0 es) (sym f) (subst (λ k. RiseTo k 0 (ends ++ size ∷ [])) s (rise_more
-    (length text) 0 size ends r longer))
+    subst (λ es. RiseTo (length more) 0 es) (sym f) (subst (λ k. RiseTo k 0 (ends ++ size ∷ [])) s (rise_more _ _ _ _ r longer))
 
 -- a line by its place, and its bounds
 pub place_within : (text ends : List ℕ) (ls : List (List ℕ)) (n : ℕ) → lines_in text 0 ends ≡ ls → n < length ls → n < length ends
@@ -121,5 +114,4 @@ line_is text ends part whole ls n start end v h p s e w =
     let few = place_within text ends ls n v h in
     let last : end ≡ get_or ends n 0 = e ∙ ap (λ es. get_or es n 0) p in
     let first : start ≡ start_in 0 ends n = s ∙ ap (λ es. start_in 0 es n) p in
-    ap (λ t. slice_range t start end) w ∙ ap (λ k. slice_range text k end) first ∙ ap (slice_range text (start_in 0 ends n)) last
-    ∙ sym (line_by_place text ends 0 n few) ∙ ap (λ l. get_or l n []) v
+    cc (line_by_place text ends 0 n few)

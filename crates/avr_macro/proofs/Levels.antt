@@ -1,6 +1,5 @@
 -- Levels of the code, and names of files.
-use Rattle.std.proofs.Common.{◌≡◌, ℕ, ◌≢◌, Bool, true, false, cond, List, [], ◌∷◌, ◌++◌, length, map, reverse, refl, sym, ◌∙◌, ap}
-use Rattle.std.specs.Prelude.{Some, None}
+use Rattle.std.proofs.Common.{◌≡◌, ℕ, ◌≢◌, Bool, true, false, cond, List, [], ◌∷◌, ◌++◌, length, map, refl, sym, ◌∙◌, ap, Some, None}
 use Rattle.std.specs.FinMap as finmap
 use Rattle.std.specs.Str.{IsUtf8, is_utf8}
 use Rattle.std.proofs.lemmas.List.{length-map, map-append, reverse-append}
@@ -15,8 +14,7 @@ use Rattle.avr_macro.specs.Views.{seen_frame, seen_frames}
 
 -- a level more
 pub last_frame : (fs more : List Frame) (frame : Frame) → more ≡ fs ++ frame ∷ [] → seen_frames more ≡ seen_frame frame ∷ seen_frames fs
-last_frame fs more frame e = ap seen_frames e ∙ ap reverse (map-append seen_frame fs (frame ∷ [])) ∙ reverse-append (map seen_frame fs)
-    (seen_frame frame ∷ [])
+last_frame fs more frame e = cc (map-append seen_frame fs (frame ∷ []), reverse-append (map seen_frame fs) (seen_frame frame ∷ []))
 
 -- the test of UTF-8
 is_valid : (bytes : List ℕ) → IsUtf8 bytes → is_utf8 bytes ≡ true
@@ -30,8 +28,7 @@ is_invalid bytes h = elim (is_utf8 bytes) as (λ b. is_utf8 bytes ≡ b → is_u
 pub name_told : (bytes called name : List ℕ) → length bytes ≢ 0 → called ≡ bytes → IsUtf8 bytes → name ≡ called
     → Some name ≡ file_name bytes
 name_told [] called name some is valid same = absurd (some refl)
-name_told (b ∷ bs) called name some is valid same =
-    ap Some (same ∙ is) ∙ sym (ap (λ t. cond t (Some (b ∷ bs)) None) (is_valid (b ∷ bs) valid))
+name_told (b ∷ bs) called name some is valid same = cc (is_valid (b ∷ bs) valid)
 
 pub none_named : (bytes : List ℕ) → length bytes ≢ 0 → ¬ (IsUtf8 bytes) → None ≡ file_name bytes
 none_named [] some invalid = absurd (some refl)
@@ -53,12 +50,11 @@ level_of lines again turns counted well origin includes blocks =
 
 pub same_level : (a b c d : List (List ℕ)) (turns : ℕ) (counted well : Bool) (p q : Origin) (includes blocks : ℕ) → a ≡ b → c ≡ d → p ≡ q
     → level_of a c turns counted well p includes blocks ≡ level_of b d turns counted well q includes blocks
-same_level a b c d turns counted well p q includes blocks e f g =
-    ap (λ x. level_of x c turns counted well p includes blocks) e ∙ ap (λ x. level_of b x turns counted well p includes blocks) f
-    ∙ ap (λ x. level_of b d turns counted well x includes blocks) g
+same_level a b c d turns counted well p q includes blocks e f g = cc
 
 -- as many lines as are replaced
-pub as_many : (put : List ℕ → List ℕ) (lines value : List (List ℕ)) (end : ℕ) → value ≡ map put lines → end ≡ length lines → end ≡ length value
+pub as_many : (put : List ℕ → List ℕ) (lines value : List (List ℕ)) (end : ℕ) → value ≡ map put lines → end ≡ length lines
+    → end ≡ length value
 as_many put lines value end is e = e ∙ sym (length-map lines put) ∙ sym (ap length is)
 
 -- the state before the first line
@@ -69,8 +65,4 @@ at_first levels macros constants text origins =
 pub begun : (levels : List Level) (macros : MacroMap) (constants : NameMap) (text : List ℕ) (origins : List Origin) (bytes : List ℕ)
     → levels ≡ file_level 0 0 bytes ∷ [] → macros ≡ finmap.empty → constants ≡ predefined → text ≡ [] → origins ≡ []
     → at_first levels macros constants text origins ≡ first_state bytes
-begun levels macros constants text origins bytes e f g h i =
-    ap (λ l. at_first l macros constants text origins) e ∙ ap (λ m. at_first (file_level 0 0 bytes ∷ []) m constants text origins) f
-    ∙ ap (λ c. at_first (file_level 0 0 bytes ∷ []) finmap.empty c text origins) g
-    ∙ ap (λ t. at_first (file_level 0 0 bytes ∷ []) finmap.empty predefined t origins) h
-    ∙ ap (λ o. at_first (file_level 0 0 bytes ∷ []) finmap.empty predefined [] o) i
+begun levels macros constants text origins bytes e f g h i = cc

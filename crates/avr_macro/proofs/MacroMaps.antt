@@ -1,14 +1,12 @@
 -- A map from names to bodies as a finite map.
-use Rattle.std.proofs.Common.{◌≡◌, ℕ, Bool, true, false, cond, List, [], ◌∷◌, Vec, Global, refl, sym, ◌∙◌, ap, subst}
-use Rattle.std.specs.Prelude.{Option, None, Some}
+use Rattle.std.proofs.Common.{◌≡◌, ℕ, Bool, true, false, cond, List, [], ◌∷◌, Vec, Global, refl, sym, ◌∙◌, ap, subst, Option, None, Some}
 use Rattle.std.specs.Option.{option_map, option_copied}
 use Rattle.std.specs.Borrow.{Bor}
 use Rattle.std.specs.declared.cmp.Ordering.{Ordering}
 use Rattle.std.specs.declared.cmp.Ordering.TheVariants.{Less, Equal, Greater}
-use Rattle.std.specs.Ordering.{nat_cmp, eq_by_cmp}
+use Rattle.std.specs.Ordering.{nat_cmp, eq_by_cmp, match_ordering, is_eq}
 use Rattle.std.specs.Cmp.Lexicographic.{slice_cmp, nat_list_cmp_total}
 use Rattle.std.specs.BTreeMap.{insert_entry, is_at}
-use Rattle.std.specs.Ordering.{match_ordering, is_eq}
 use Rattle.std.specs.Map.{lookup}
 use Rattle.std.specs.FinMap.{find, get, insert, from_entries, get-insert, get-from_entries, same_map}
 use Rattle.std.proofs.lemmas.Map.Lookups.{exact_bytes}
@@ -28,9 +26,7 @@ either false body o = refl
 find_name : (es : List (Vec ℕ Global × Macro)) (q : List ℕ) → find (slice_cmp nat_cmp) q (named es) ≡ option_map seen_macro
     (lookup (λ (k : Vec ℕ Global). is_at (λ (x : Vec ℕ Global). slice_cmp nat_cmp q x.items) k) es)
 find_name [] q = refl
-find_name (e ∷ es) q = ap (cond (eq_by_cmp (slice_cmp nat_cmp) q e.0.items) (Some (seen_macro e.1))) (find_name es q)
-    ∙ either (eq_by_cmp (slice_cmp nat_cmp) q e.0.items) e.1
-    (lookup (λ (k : Vec ℕ Global). is_at (λ (x : Vec ℕ Global). slice_cmp nat_cmp q x.items) k) es)
+find_name (e ∷ es) q = ap (cond (eq_by_cmp (slice_cmp nat_cmp) q e.0.items) (Some (seen_macro e.1))) (find_name es q) ∙ either _ _ _
 
 -- what the map has at a name
 pub get_name : (es : List (Vec ℕ Global × Macro)) (q : List ℕ) → get (from_entries {R = slice_cmp nat_cmp} (named es))
@@ -38,9 +34,8 @@ pub get_name : (es : List (Vec ℕ Global × Macro)) (q : List ℕ) → get (fro
 get_name es q = get-from_entries nat_list_cmp_total (named es) q ∙ find_name es q
 
 equal_of : (o : Ordering) → is_eq o ≡ true → o ≡ Equal
-equal_of Less e = absurd cc
 equal_of Equal e = refl
-equal_of Greater e = absurd cc
+equal_of other e = absurd cc
 
 same_name : (x y : List ℕ) → eq_by_cmp (slice_cmp nat_cmp) x y ≡ true → x ≡ y
 same_name x y e = exact_bytes x y (equal_of (slice_cmp nat_cmp x y) e)
@@ -52,9 +47,7 @@ twice false v x rest = refl
 swapped : (a b : Bool) (v x : List (List ℕ)) (rest : Option (List (List ℕ))) → (a ≡ true → b ≡ true → ⊥) → cond a (Some x)
     (cond b (Some v) rest) ≡ cond b (Some v) (cond a (Some x) rest)
 swapped true true v x rest apart = absurd (apart refl refl)
-swapped true false v x rest apart = refl
-swapped false true v x rest apart = refl
-swapped false false v x rest apart = refl
+swapped other further v x rest apart = refl
 
 -- no name is both of two that aren't equal
 apart : (q k n : List ℕ) → slice_cmp nat_cmp k n ≡ Greater → eq_by_cmp (slice_cmp nat_cmp) q n ≡ true → eq_by_cmp (slice_cmp nat_cmp) q

@@ -1,9 +1,7 @@
 -- Over a shelf that tells its files each state has one next state or one end.
 use Rattle.std.proofs.Common.{◌≡◌, ℕ, ◌≤◌, ◌<◌, Bool, true, false, List, [], ◌∷◌, ◌++◌, length, refl, sym, ◌∙◌, ap, subst, append_assoc}
-use Rattle.std.proofs.Common.{arith}
-use Rattle.std.specs.Prelude.{nat_le, Option, Some, None}
+use Rattle.std.proofs.Common.{arith, nat_le, Option, Some, None, append-nil}
 use Rattle.std.specs.FinMap.{get}
-use Rattle.std.proofs.lemmas.List.{append-nil}
 use Rattle.std.proofs.lemmas.Bool.Decides.{nat_tests}
 use Rattle.uz_shelf.specs.Files.{FileMap}
 use Rattle.avr_macro.specs.declared.errors.MacroWhy.TheVariants.{Unread, TooLong}
@@ -58,27 +56,19 @@ too_long bytes h = grind (arith, nat_tests)
 holds_next : (m : FileMap) (names later : List (List ℕ)) (level : Level) (s : State) (name bytes : List ℕ) (move : Move) → get m name ≡ Some
     bytes → length bytes ≤ 1048576 → included (length names) bytes level s ≡ move
     → by_file (get m name) names later level s ≡ by_included later level move
-holds_next m names later level s name bytes move e h i =
-    ap (λ o. by_file o names later level s) e ∙ ap (λ b. by_length b names later bytes level s) (short_enough bytes h)
-    ∙ ap (by_included later level) i
+holds_next m names later level s name bytes move e h i = cc (short_enough bytes h)
 
 step_next : (m : FileMap) (names later : List (List ℕ)) (s t : State) → Step (Some m) names s later t → next m names s ≡ going later t
 step_next m names _ s t (step_goes level outer d) = does_next m names s level outer (goes t) d
-step_next m names _ s t (step_loads level outer name bytes d e h i) =
-    does_next m names s level outer (loads name) d ∙ holds_next m names (names ++ name ∷ []) level (around outer s) name bytes (goes t) e h
-    i
+step_next m names _ s t (step_loads level outer name bytes d e h i) = does_next _ _ _ _ _ _ d ∙ holds_next _ _ _ _ _ _ _ _ e h i
 
 ends_next : (m : FileMap) (names : List (List ℕ)) (s : State) (end : End) → Ends (Some m) names s end → next m names s ≡ over end
 ends_next m names s _ (ends_flat e) = ap (by_levels m names s) e
 ends_next m names s _ (ends_refused level outer reason d) = does_next m names s level outer (refuses reason) d
-ends_next m names s _ (ends_unread level outer name d e) =
-    does_next m names s level outer (loads name) d ∙ ap (λ o. by_file o names (names ++ name ∷ []) level (around outer s)) e
+ends_next m names s _ (ends_unread level outer name d e) = cc (does_next m names s level outer (loads name) d)
 ends_next m names s _ (ends_too_long level outer name d longer) =
-    does_next m names s level outer (loads name) d ∙ ap (λ o. by_file o names (names ++ name ∷ []) level (around outer s)) longer.1
-    ∙ ap (λ b. by_length b names (names ++ name ∷ []) longer.0 level (around outer s)) (too_long longer.0 longer.2)
-ends_next m names s _ (ends_loaded level outer name bytes reason d e h i) =
-    does_next m names s level outer (loads name) d ∙ holds_next m names (names ++ name ∷ []) level (around outer s) name bytes
-    (refuses reason) e h i
+    cc (does_next m names s level outer (loads name) d, longer.1, too_long longer.0 longer.2)
+ends_next m names s _ (ends_loaded level outer name bytes reason d e h i) = does_next _ _ _ _ _ _ d ∙ holds_next _ _ _ _ _ _ _ _ e h i
 
 -- the states from one on, in order
 data Onward (m : FileMap) : List (List ℕ) → State → List (List ℕ) → State → Type 0 where
@@ -122,8 +112,7 @@ begins_more a b c (x, e) (y, f) = (x ++ y, sym (append_assoc a x y) ∙ ap (λ n
 keeps_included : (later : List (List ℕ)) (level : Level) (move : Move) → Keeps later (by_included later level move)
 unfolding Keeps
 keeps_included later level (goes t) = begins_all later
-keeps_included later level (loads name) = begins_all later
-keeps_included later level (refuses reason) = begins_all later
+keeps_included later level other = begins_all later
 
 keeps_length : (b : Bool) (names later : List (List ℕ)) (bytes : List ℕ) (level : Level) (s : State)
     → Keeps later (by_length b names later bytes level s)
@@ -143,11 +132,8 @@ keeps_fewer a b (over end) h k = begins_more a b end.names h k
 
 keeps_move : (m : FileMap) (names : List (List ℕ)) (level : Level) (s : State) (move : Move) → Keeps names (by_move m names level s move)
 unfolding Keeps
-keeps_move m names level s (goes t) = begins_all names
-keeps_move m names level s (refuses reason) = begins_all names
-keeps_move m names level s (loads name) =
-    keeps_fewer names (names ++ name ∷ []) (by_file (get m name) names (names ++ name ∷ []) level s) (name ∷ [], refl)
-    (keeps_file (get m name) names (names ++ name ∷ []) level s)
+keeps_move m names level s (loads name) = keeps_fewer _ _ _ (name ∷ [], refl) (keeps_file (get m name) names (names ++ name ∷ []) level s)
+keeps_move m names level s other = begins_all names
 
 keeps_levels : (m : FileMap) (names : List (List ℕ)) (s : State) (levels : List Level) → Keeps names (by_levels m names s levels)
 unfolding Keeps
@@ -165,18 +151,15 @@ pub names_begin : (m : FileMap) (begun names there : List (List ℕ)) (first s u
     → Reaches (Some m) begun first names s → Reaches (Some m) begun first there u → Ends (Some m) there u end → BeginsWith names end.names
 unfolding Keeps
 names_begin m begun names there first s u end r way e =
-    let last = ends_next m there u end e in
-    begins_more names there end.names
-    (grows m names there s u (meets m begun names there first s u end (onward m begun first names s r) (onward m begun first there u way)
-    last))
+    let last = ends_next _ _ _ _ e in
+    begins_more _ _ _ (grows _ _ _ _ _ (meets _ _ _ _ _ _ _ _ (onward _ _ _ _ _ r) (onward _ _ _ _ _ way) last))
     (subst (Keeps there) last (keeps_levels m there u u.levels))
 
 -- and where the next file is asked for, its name is among them too
 asked_here : (m : FileMap) (names : List (List ℕ)) (s : State) (level : Level) (outer : List Level) (name : List ℕ) (n : Next)
     → Does s level outer (loads name) → next m names s ≡ n → Keeps (names ++ name ∷ []) n
 asked_here m names s level outer name n d e =
-    subst (Keeps (names ++ name ∷ [])) (sym (does_next m names s level outer (loads name) d) ∙ e)
-    (keeps_file (get m name) names (names ++ name ∷ []) level (around outer s))
+    subst (Keeps (names ++ name ∷ [])) (sym (does_next _ _ _ _ _ _ d) ∙ e) (keeps_file (get m name) names _ level (around outer s))
 
 asked_from : (m : FileMap) (names there : List (List ℕ)) (s u : State) (end : End) (level : Level) (outer : List Level) (name : List ℕ)
     → Does s level outer (loads name)
@@ -192,9 +175,8 @@ pub asked_begins : (m : FileMap) (begun names there : List (List ℕ)) (first s 
     → Reaches (Some m) begun first names s → Reaches (Some m) begun first there u → Ends (Some m) there u end → Does s level outer
     (loads name) → BeginsWith (names ++ name ∷ []) end.names
 asked_begins m begun names there first s u end level outer name r way e d =
-    let last = ends_next m there u end e in
-    asked_from m names there s u end level outer name d (meets m begun names there first s u end (onward m begun first names s r)
-    (onward m begun first there u way) last) last
+    let last = ends_next _ _ _ _ e in
+    asked_from _ _ _ _ _ _ _ _ _ d (meets _ _ _ _ _ _ _ _ (onward _ _ _ _ _ r) (onward _ _ _ _ _ way) last) last
 
 -- there is one end
 same_end : (m : FileMap) (here there : List (List ℕ)) (s u : State) (x y : End) → Onward m here s there u → next m there u ≡ over y
@@ -205,6 +187,5 @@ same_end m here there s u x y (ahead {middle = a} {t = t} f rest) last e = let k
 pub one_end : (m : FileMap) (begun here there : List (List ℕ)) (first s u : State) (x y : End)
     → Reaches (Some m) begun first here s → Ends (Some m) here s x → Reaches (Some m) begun first there u → Ends (Some m) there u y → x ≡ y
 one_end m begun here there first s u x y r ex way ey =
-    let last = ends_next m there u y ey in
-    same_end m here there s u x y (meets m begun here there first s u y (onward m begun first here s r) (onward m begun first there u way)
-    last) last (ends_next m here s x ex)
+    let last = ends_next _ _ _ _ ey in
+    same_end _ _ _ _ _ _ _ (meets _ _ _ _ _ _ _ _ (onward _ _ _ _ _ r) (onward _ _ _ _ _ way) last) last (ends_next _ _ _ _ ex)

@@ -1,14 +1,15 @@
 -- Lines at whose front an argument may stand are of the same directive in each call no argument of which begins with `.`.
-use Rattle.std.proofs.Common.{◌≡◌, ℕ, zero, suc, ◌+◌, ◌-◌, ◌/◌, ◌%◌, ◌<◌, Bool, true, false, cond, eqb, ltb, List, [], ◌∷◌, ◌++◌, get_or}
+use Rattle.std.proofs.Common.{◌≡◌, ℕ, zero, suc, ◌+◌, ◌-◌, ◌/◌, ◌%◌, ◌<◌, Bool, true, false, cond, List, [], ◌∷◌, ◌++◌, get_or}
 use Rattle.std.proofs.Common.{decimal, refl, sym, ◌∙◌, ap, arith}
-use Rattle.std.specs.Prelude.{◌==◌, ◌||◌, not}
+use Rattle.std.specs.Prelude.{◌==◌, not}
 use Rattle.std.specs.Fmt.{digit_glyph, digits, digits_onto}
 use Rattle.std.proofs.lemmas.Bool.Decides.{nat_tests}
 use Rattle.uz_hex.specs.Lines.{is_blank}
 use Rattle.avr_text.specs.Characters.{is_digit}
 use Rattle.avr_macro.specs.declared.directives.Word.TheVariants.{Other}
 use Rattle.avr_macro.specs.Arguments.{replaced, replaced_from}
-use Rattle.avr_macro.specs.AtSigns.{KeepsDirectives, any_dot, are_quiet, begins_dot, is_quiet, is_quiet_front, is_steady, is_steady_front, lacks_at, opens_dot}
+use Rattle.avr_macro.specs.AtSigns.{KeepsDirectives, any_dot, are_quiet, begins_dot, is_quiet, is_quiet_front, is_steady}
+use Rattle.avr_macro.specs.AtSigns.{is_steady_front, lacks_at, opens_dot}
 use Rattle.avr_macro.specs.Directives.{directive_of, dot_word, named_word}
 use Rattle.avr_macro.specs.Lines.{after_blanks, after_word, word_of}
 use Rattle.avr_macro.proofs.Steady.{directive_stays}
@@ -26,18 +27,7 @@ by_first : (b : ℕ) (bs : List ℕ) → is_blank b ≡ false → (b == 46) ≡ 
 by_first b bs e f = ap (λ t. begins_dot (cond t (after_blanks bs) (b ∷ bs))) e ∙ f
 
 digit_first : (d : ℕ) (bs : List ℕ) → d < 10 → has_dot (digit_glyph false d ∷ bs) ≡ false
-digit_first d bs h = by_first (digit_glyph false d) bs (no_blank (ltb d 10) refl) (no_dot (ltb d 10) refl)
-  where
-    no_blank : (t : Bool) → ltb d 10 ≡ t → is_blank (cond t (48 + d) (87 + d)) ≡ false
-    no_blank true e =
-        let space : eqb (48 + d) 32 ≡ false = grind (arith, nat_tests) in
-        let tab : eqb (48 + d) 9 ≡ false = grind (arith, nat_tests) in
-        ap (λ t. t || eqb (48 + d) 9) space ∙ tab
-    no_blank false e = absurd grind (arith, nat_tests)
-
-    no_dot : (t : Bool) → ltb d 10 ≡ t → (cond t (48 + d) (87 + d) == 46) ≡ false
-    no_dot true e = grind (arith, nat_tests)
-    no_dot false e = absurd grind (arith, nat_tests)
+digit_first d bs h = grind (arith, nat_tests, by_first)
 
 onto_first : (k n : ℕ) (acc rest : List ℕ) → has_dot (acc ++ rest) ≡ false → has_dot (digits_onto k 10 false n acc ++ rest) ≡ false
 onto_first zero n acc rest e = e
@@ -82,23 +72,12 @@ after_argument (b ∷ bs) rest e f = by_test (is_blank b) e (λ h. after_argumen
 
 argument_first : (arguments : Texts) (k : ℕ) → any_dot arguments ≡ false → has_dot (get_or arguments k []) ≡ false
 argument_first [] k e = refl
-argument_first (a ∷ more) k e = by_test (has_dot a) refl e k (argument_first more)
-  where
-    by_test : (t : Bool) → has_dot a ≡ t → cond t true (any_dot more) ≡ false → (k : ℕ)
-        → ((j : ℕ) → any_dot more ≡ false → has_dot (get_or more j []) ≡ false) → has_dot (get_or (a ∷ more) k []) ≡ false
-    by_test true f e k rest = absurd cc
-    by_test false f e zero rest = f
-    by_test false f e (suc j) rest = rest j e
+argument_first (a ∷ more) k e = grind (arith, nat_tests, argument_first more)
 
 -- blanks at the front don't count
 after_some_blanks : (line : List ℕ) → opens_dot false line ≡ opens_dot false (after_blanks line)
 after_some_blanks [] = refl
-after_some_blanks (b ∷ bs) = by_test (is_blank b) refl (after_some_blanks bs)
-  where
-    by_test : (t : Bool) → is_blank b ≡ t → opens_dot false bs ≡ opens_dot false (after_blanks bs)
-        → opens_dot false (b ∷ bs) ≡ opens_dot false (cond t (after_blanks bs) (b ∷ bs))
-    by_test true e rest = ap (λ t. cond t (opens_dot false bs) (cond (b == 64) (opens_dot true bs) (b == 46))) e ∙ rest
-    by_test false e rest = refl
+after_some_blanks (b ∷ bs) = grind (arith, nat_tests, after_some_blanks bs)
 
 no_directive : (text : List ℕ) → begins_dot text ≡ false → dot_word text ≡ Other
 no_directive [] e = refl
@@ -131,9 +110,7 @@ module _ (arguments : Texts) (call : ℕ) (quiet : any_dot arguments ≡ false) 
           let same : b ≡ 64 = grind (arith, nat_tests) in
           let both : true ≡ false = sym f ∙ ap is_blank same in
           absurd cc
-      by_tests true false f g e rest named =
-          ap (λ t. begins_dot (cond t (after_blanks (replaced_from arguments call false bs)) (b ∷ replaced_from arguments call false bs))) f
-          ∙ rest e
+      by_tests true false f g e rest named = cc (rest e)
       by_tests false true f g e rest named = named e
       by_tests false false f g e rest named = by_first b (replaced_from arguments call false bs) f e
 
@@ -167,10 +144,4 @@ module _ (arguments : Texts) (call : ℕ) (quiet : any_dot arguments ≡ false) 
 
   pub quiet_kept : (lines : Texts) → are_quiet lines ≡ true → KeepsDirectives (replaced arguments call) lines
   quiet_kept [] e = tt
-  quiet_kept (line ∷ lines) e = by_test (is_quiet line) refl e (quiet_kept lines)
-    where
-      by_test : (t : Bool) → is_quiet line ≡ t → cond t (are_quiet lines) false ≡ true
-          → (are_quiet lines ≡ true → KeepsDirectives (replaced arguments call) lines)
-          → KeepsDirectives (replaced arguments call) (line ∷ lines)
-      by_test true f e rest = (directive_quiet line f, rest e)
-      by_test false f e rest = absurd cc
+  quiet_kept (line ∷ lines) e = grind (arith, nat_tests, quiet_kept lines, directive_quiet line)

@@ -1,17 +1,15 @@
 -- Lines of calls that are read byte by byte.
 use Rattle.std.proofs.Common.{◌≡◌, ℕ, ◌<◌, ◌≤◌, Bool, true, false, cond, ltb, List, [], ◌∷◌, ◌++◌, length, map, refl, sym, ◌∙◌, ap, arith}
-use Rattle.std.proofs.Common.{append_assoc}
-use Rattle.std.specs.Prelude.{Option, Some, None, IfNone, ◌&&◌, codes, nat_eq}
+use Rattle.std.proofs.Common.{append_assoc, Option, Some, None, IfNone, codes}
 use Rattle.std.specs.Char.{to_ascii_lowercase}
 use Rattle.std.specs.Str.{bytes_eq}
 use Rattle.std.proofs.lemmas.Bool.{ltb-true}
 use Rattle.std.proofs.lemmas.Bool.Decides.{nat_tests}
 use Rattle.std.proofs.lemmas.List.{append-nil, length-append, length-map}
-use Rattle.avr_text.specs.Characters.{is_word}
 use Rattle.avr_text.specs.Words.{is_word_named}
 use Rattle.avr_macro.specs.declared.directives.Word.{Word}
-use Rattle.avr_macro.specs.declared.directives.Word.TheVariants.{Macro, EndMacro, Repeat, EndRepeat, If, Else, EndIf, Include}
-use Rattle.avr_macro.specs.declared.directives.Word.TheVariants.{Constant, Other}
+use Rattle.avr_macro.specs.declared.directives.Word.TheVariants.{Macro, EndMacro, Repeat, EndRepeat, If, Else, EndIf, Include, Constant}
+use Rattle.avr_macro.specs.declared.directives.Word.TheVariants.{Other}
 use Rattle.avr_macro.specs.Directives.{dot_word, named_word}
 use Rattle.avr_macro.specs.Lines.{after_blanks, word_of}
 use Rattle.avr_macro.specs.Readers.{Reads, from_next, letter}
@@ -31,11 +29,7 @@ nothing_left (Some b) text rest e = tt
 differs : (xs ys : List ℕ) → length ys < length xs → bytes_eq xs ys ≡ false
 differs [] ys h = absurd (omega (arith, h))
 differs (x ∷ xs) [] h = refl
-differs (x ∷ xs) (y ∷ ys) h = both (nat_eq x y) (bytes_eq xs ys) (differs xs ys (omega (arith, h)))
-  where
-    both : (s t : Bool) → t ≡ false → (s && t) ≡ false
-    both true t e = e
-    both false t e = refl
+differs (x ∷ xs) (y ∷ ys) h = grind (arith, nat_tests, differs xs ys (omega (arith, h)))
 
 no_name : (word name : List ℕ) → ltb (length name) 8 ≡ true → 8 ≤ length word → is_word_named word name ≡ false
 no_name word name short long =
@@ -50,15 +44,17 @@ passed false x y e = refl
 -- so a long one is no directive's name
 long_word : (w : List ℕ) → 8 ≤ length w → named_word w ≡ Other
 long_word w h =
-    passed _ Macro _ (no_name w (codes "macro") refl h)
-    ∙ passed _ EndMacro _ (no_name w (codes "endm") refl h)
-    ∙ passed _ Repeat _ (no_name w (codes "rept") refl h)
-    ∙ passed _ EndRepeat _ (no_name w (codes "endr") refl h)
-    ∙ passed _ If _ (no_name w (codes "if") refl h)
-    ∙ passed _ Else _ (no_name w (codes "else") refl h)
-    ∙ passed _ EndIf _ (no_name w (codes "endif") refl h)
-    ∙ passed _ Include _ (no_name w (codes "include") refl h)
-    ∙ passed _ Constant _ (no_name w (codes "equ") refl h)
+    cc (
+      passed _ Macro _ (no_name w (codes "macro") refl h),
+      passed _ EndMacro _ (no_name w (codes "endm") refl h),
+      passed _ Repeat _ (no_name w (codes "rept") refl h),
+      passed _ EndRepeat _ (no_name w (codes "endr") refl h),
+      passed _ If _ (no_name w (codes "if") refl h),
+      passed _ Else _ (no_name w (codes "else") refl h),
+      passed _ EndIf _ (no_name w (codes "endif") refl h),
+      passed _ Include _ (no_name w (codes "include") refl h),
+      passed _ Constant _ (no_name w (codes "equ") refl h),
+    )
 
 -- a letter more
 pub letters_more : (count : ℕ) (ahead next found : Option ℕ) (b : ℕ) (name more left rest whole : List ℕ) → found ≡ letter count ahead
@@ -66,35 +62,15 @@ pub letters_more : (count : ℕ) (ahead next found : Option ℕ) (b : ℕ) (name
     → more ++ word_of (from_next next rest) ≡ whole
 letters_more count None next found b name more left rest whole e is m r so_far = absurd cc
 letters_more count (Some a) next found b name more left rest whole e is m r so_far =
-    by_tests (is_word a) (ltb count 8) refl (sym e ∙ is) so_far
-  where
-    by_tests : (w s : Bool) → is_word a ≡ w → cond (w && s) (Some a) None ≡ Some b → name ++ cond w (a ∷ word_of left) [] ≡ whole
-        → more ++ word_of (from_next next rest) ≡ whole
-    by_tests true true f is so_far =
-        let same : a ≡ b = cc in
-        ap (λ xs. xs ++ word_of (from_next next rest)) m
-        ∙ append_assoc name (b ∷ []) (word_of (from_next next rest))
-        ∙ ap (λ xs. name ++ b ∷ word_of xs) (read_back next left rest r)
-        ∙ ap (λ x. name ++ x ∷ word_of left) (sym same)
-        ∙ so_far
-    by_tests true false f is so_far = absurd cc
-    by_tests false s f is so_far = absurd cc
+    grind (arith, nat_tests, append_assoc name (b ∷ []) (word_of (from_next next rest)), read_back next left rest r)
 
 -- no letter more
 pub letters_told : (count : ℕ) (ahead : Option ℕ) (name left whole : List ℕ) → None ≡ letter count ahead → count ≡ length name
     → IfNone ahead (left ≡ []) → name ++ word_of (from_next ahead left) ≡ whole → named_word name ≡ named_word whole
 letters_told count None name left whole e c ended so_far =
     ap named_word (sym (append-nil name) ∙ ap (λ xs. name ++ word_of xs) (sym ended) ∙ so_far)
-letters_told count (Some a) name left whole e c ended so_far = by_tests (is_word a) (ltb count 8) refl e so_far
-  where
-    by_tests : (w s : Bool) → ltb count 8 ≡ s → None ≡ cond (w && s) (Some a) None → name ++ cond w (a ∷ word_of left) [] ≡ whole
-        → named_word name ≡ named_word whole
-    by_tests true true f e so_far = absurd cc
-    by_tests true false f e so_far =
-        let long : 8 ≤ length name = grind (arith, nat_tests) in
-        long_word name long
-        ∙ sym (long_word whole (omega (arith, long, ap length (sym so_far), length-append name (a ∷ word_of left))))
-    by_tests false s f e so_far = ap named_word (sym (append-nil name) ∙ so_far)
+letters_told count (Some a) name left whole e c ended so_far =
+    grind (arith, nat_tests, long_word name, long_word whole, length-append name (a ∷ word_of left), append-nil name)
 
 -- ---- the directive at the front
 
@@ -105,8 +81,4 @@ pub directive_read : (next first again last : Option ℕ) (byte : ℕ) (text one
 directive_read next None again last byte text one two three four r is f dot s t = absurd cc
 directive_read next (Some b) again last byte text one two three four r is f dot s t =
     let byte_is : b ≡ 46 = cc in
-    ap (λ xs. named_word (word_of xs)) (read_back last (after_blanks (from_next again three)) four t)
-    ∙ ap (λ xs. named_word (word_of (after_blanks xs))) (read_back again two three s)
-    ∙ ap (λ x. dot_word (x ∷ two)) (sym byte_is)
-    ∙ ap dot_word (sym f)
-    ∙ ap (λ xs. dot_word (after_blanks xs)) (read_back next text one r)
+    cc (read_back last (after_blanks (from_next again three)) four t, read_back again two three s, read_back next text one r)

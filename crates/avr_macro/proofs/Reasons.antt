@@ -1,13 +1,12 @@
 -- No line is refused by itself as one whose file can't be read, and none makes the flat text too long.
-use Rattle.std.proofs.Common.{◌≡◌, ℕ, zero, suc, ◌+◌, ◌≤◌, Bool, true, false, cond, List, [], ◌∷◌, ◌++◌, length, map, refl, subst, arith}
-use Rattle.std.specs.Prelude.{ℤ, pos, negsuc, nat_le, nat_lt, not, ◌||◌, is_some, Option, Some, None}
+use Rattle.std.proofs.Common.{◌≡◌, ℕ, zero, suc, ◌+◌, ◌≤◌, Bool, true, false, cond, List, [], ◌∷◌, ◌++◌, length, map, subst, arith}
+use Rattle.std.specs.Prelude.{ℤ, pos, nat_le, nat_lt, not, ◌||◌, is_some, Option, Some, None}
 use Rattle.std.specs.FinMap as finmap
 use Rattle.std.proofs.lemmas.Bool.Decides.{nat_tests}
 use Rattle.std.proofs.lemmas.List.{length-append}
 use Rattle.uz_shelf.specs.Files.{FileMap}
 use Rattle.avr_macro.specs.declared.directives.Word.{Word}
-use Rattle.avr_macro.specs.declared.directives.Word.TheVariants.{Macro, EndMacro, Repeat, EndRepeat, If, Else, EndIf, Include, Constant}
-use Rattle.avr_macro.specs.declared.directives.Word.TheVariants.{Other}
+use Rattle.avr_macro.specs.declared.directives.Word.TheVariants.{Macro, Repeat, If, Include, Constant, Other}
 use Rattle.avr_macro.specs.declared.errors.MacroWhy.{MacroWhy}
 use Rattle.avr_macro.specs.declared.errors.MacroWhy.TheVariants as why
 use Rattle.avr_macro.specs.Arguments.{arguments_of, replaced}
@@ -46,12 +45,8 @@ short_line false text line e =
     omega (arith, k, length-append text (line ++ 10 ∷ []), length-append line (10 ∷ []))
 
 own_plain : (line : List ℕ) (setting : Option Setting) (level : Level) (s : State) → Own (plain_move line setting level s)
-own_plain line setting level s = by_case (is_full s || nat_lt 1048576 (length s.text + (length line + 1))) refl
-  where
-    by_case : (b : Bool) → (is_full s || nat_lt 1048576 (length s.text + (length line + 1))) ≡ b
-        → Own (unless b why.Full (goes (put_line line setting level s)))
-    by_case true e = own_refuses why.Full tt
-    by_case false e = own_goes (put_line line setting level s) (short_line (is_full s) s.text line e)
+own_plain line setting level s =
+    grind (arith, nat_tests, own_refuses why.Full tt, own_goes (put_line line setting level s), short_line (is_full s) s.text line)
 
 own_counted : (b : Bool) (level : Level) (s : State) → length s.text ≤ 1048576
     → Own (cond b (unless (is_full s) why.Full (goes (turned level.turns level s))) (goes s))
@@ -75,9 +70,8 @@ own_macro_named None level s h = own_refuses _ tt
 own_macro_named (Some name) level s h = own_macro_body name (macro_end (later level)) level s h
 
 own_times : (o : Option ℤ) (n : ℕ) (level : Level) (s : State) → length s.text ≤ 1048576 → Own (repeat_times o n level s)
-own_times None n level s h = own_refuses _ tt
-own_times (Some (negsuc t)) n level s h = own_refuses _ tt
 own_times (Some (pos t)) n level s h = own_unless (nat_lt 65535 t) why.Value tt (own_enter (repeated t n level) (passed (n + 2) level) s h)
+own_times other n level s h = own_refuses _ tt
 
 own_repeat_body : (operands : List ℕ) (o : Option ℕ) (level : Level) (s : State) → length s.text ≤ 1048576
     → Own (repeat_body operands o level s)
@@ -114,10 +108,7 @@ own_word If line level s h = own_unless (nat_le 16 level.blocks) why.Depth tt (o
 own_word Include line level s h = own_named (file_name (trimmed (operands_of line))) level
 own_word Constant line level s h = own_plain line (setting_of s.constants (operands_of line)) level s
 own_word Other line level s h = own_other (body_of (first_word line) s) line level s h
-own_word EndMacro line level s h = own_refuses _ tt
-own_word EndRepeat line level s h = own_refuses _ tt
-own_word Else line level s h = own_refuses _ tt
-own_word EndIf line level s h = own_refuses _ tt
+own_word other line level s h = own_refuses _ tt
 
 own_at : (lines : List (List ℕ)) (level : Level) (s : State) → length s.text ≤ 1048576 → Own (move_at lines level s)
 own_at [] level s h = own_turn level s h
@@ -129,14 +120,12 @@ own_included file bytes level s h =
     (own_unless (not (is_zero level.blocks)) why.Form tt (own_enter (file_level file (level.includes + 1) bytes) (passed 1 level) s h))
 
 of_line : (reason : MacroWhy) (move : Move) → Own move → move ≡ refuses reason → OfLine reason
-of_line reason _ (own_goes t k) e = absurd cc
-of_line reason _ (own_loads name) e = absurd cc
 of_line reason _ (own_refuses r h) e = let k : r ≡ reason = cc in subst OfLine k h
+of_line reason _ other e = absurd cc
 
 of_text : (t : State) (move : Move) → Own move → move ≡ goes t → length t.text ≤ 1048576
 of_text t _ (own_goes u k) e = let same : u ≡ t = cc in subst (λ (x : State). length x.text ≤ 1048576) same k
-of_text t _ (own_loads name) e = absurd cc
-of_text t _ (own_refuses r h) e = absurd cc
+of_text t _ other e = absurd cc
 
 pub line_reason : (level : Level) (s : State) (reason : MacroWhy) → length s.text ≤ 1048576 → move_of level s ≡ refuses reason
     → reason ≡ why.Unread → ⊥
@@ -144,8 +133,7 @@ line_reason level s reason h e u = subst OfLine u (of_line reason (move_of level
 
 pub file_reason : (file : ℕ) (bytes : List ℕ) (level : Level) (s : State) (reason : MacroWhy) → length s.text ≤ 1048576 → included file
     bytes level s ≡ refuses reason → reason ≡ why.Unread → ⊥
-file_reason file bytes level s reason h e u =
-    subst OfLine u (of_line reason (included file bytes level s) (own_included file bytes level s h) e)
+file_reason file bytes level s reason h e u = subst OfLine u (of_line _ _ (own_included file bytes level s h) e)
 
 line_keeps : (level : Level) (s t : State) → length s.text ≤ 1048576 → move_of level s ≡ goes t → length t.text ≤ 1048576
 line_keeps level s t h e = of_text t (move_of level s) (own_at level.lines level s h) e

@@ -23,9 +23,7 @@ use Rattle.avr_macro.specs.Steps.{AsksFor, GivesStep}
 pub more_names : (old new : List (String Global)) (name : String Global) (bytes : List ℕ) → new ≡ old ++ name ∷ []
     → string_bytes name ≡ bytes → map (λ (n : String Global). string_bytes n) new ≡ map (λ (n : String Global). string_bytes n) old
     ++ bytes ∷ []
-more_names old new name bytes e f =
-    ap (map (λ (n : String Global). string_bytes n)) e ∙ map-append (λ (n : String Global). string_bytes n) old (name ∷ [])
-    ∙ ap (λ b. map (λ (n : String Global). string_bytes n) old ++ b ∷ []) f
+more_names old new name bytes e f = cc (map-append (λ (n : String Global). string_bytes n) old (name ∷ []))
 
 -- a file that was loaded is included, or refused
 pub file_read : (files : Option FileMap) (names later : List (List ℕ)) (name : List ℕ) (level : Level) (s after : State) (file : ℕ)
@@ -165,8 +163,7 @@ cut_at_file files load_fault begun names later first s after level outer name e 
       state = s;
       reached = r;
       asked = inr (level, outer, name, does, is);
-      cut = inr (seen_there files load_fault names later s level name e is at (file_ends files load_fault names s level outer name e does
-          x));
+      cut = inr (seen_there _ _ _ _ _ level _ _ is at (file_ends _ _ _ _ _ _ _ e does x));
     }
 
 -- the same of equal files, levels and states
@@ -237,7 +234,6 @@ cut_off files other fault whole name begun later first e same b (bytes, held, sh
       bytes,
       held,
       short,
-      cut_before files fault whole (name ∷ []) later (first_state bytes) e w
-          (subst (λ x. IsCut x fault (name ∷ []) (first_state bytes) later e) same
+      cut_before _ _ _ _ _ _ _ w (subst (λ x. IsCut x fault (name ∷ []) (first_state bytes) later e) same
           (subst (λ n. IsCut other fault n (first_state bytes) later e) b (subst (λ t. IsCut other fault begun t later e) f c))),
     ))

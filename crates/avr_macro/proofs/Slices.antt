@@ -1,7 +1,6 @@
 -- Lines by their places, one more at a time.
-use Rattle.std.proofs.Common.{◌≡◌, ℕ, zero, suc, ◌+◌, ◌-◌, ◌<◌, ◌≤◌, List, [], ◌∷◌, ◌++◌, length, get_or}
-use Rattle.std.proofs.Common.{take, drop, map, refl, sym, ◌∙◌, ap, append_assoc, add-one, drop-cons, arith}
-use Rattle.std.specs.Prelude.{Option, Some, None}
+use Rattle.std.proofs.Common.{◌≡◌, ℕ, zero, suc, ◌+◌, ◌-◌, ◌<◌, ◌≤◌, List, [], ◌∷◌, ◌++◌, length, get_or, take, drop, map, refl, sym, ◌∙◌}
+use Rattle.std.proofs.Common.{ap, append_assoc, add-one, drop-cons, arith, Option, Some, None}
 use Rattle.std.specs.List.{slice_range}
 use Rattle.std.proofs.lemmas.List.{drop-drop, drop-take, drop_all, take-take}
 use Rattle.std.proofs.Math.Seq.{take-length}
@@ -15,15 +14,11 @@ Texts = List (List ℕ)
 pub after_some : (xs : Texts) (at end n : ℕ) → at + n ≤ end → slice_range xs (at + n) end ≡ drop n (slice_range xs at end)
 after_some xs at end n h =
     let left : (end - at) ≡ n + (end - (at + n)) = omega arith in
-    sym (ap (λ k. drop n (take k (drop at xs))) left
-    ∙ drop-take n (end - (at + n)) (drop at xs)
-    ∙ ap (take (end - (at + n))) (drop-drop n at xs))
+    cc (drop-take n (end - (at + n)) (drop at xs), drop-drop n at xs)
 
 -- a whole body
 pub whole_body : (xs : Texts) (n : ℕ) → n ≡ length xs → slice_range xs 0 n ≡ xs
-whole_body xs n e =
-    let k : n - 0 ≡ length xs = omega (arith, e) in
-    ap (λ m. take m xs) k ∙ take-length xs
+whole_body xs n e = let k : n - 0 ≡ length xs = omega (arith, e) in cc (take-length xs)
 
 -- lines after the next one
 pub inner_part : (xs : Texts) (at end from to : ℕ) → from ≤ to → at + (1 + to) ≤ end
@@ -33,13 +28,12 @@ inner_part xs at end from to order h =
     let place : at + 1 + from ≡ at + (1 + from) = omega arith in
     let left : end - at ≡ (1 + from) + ((end - at) - (1 + from)) = omega arith in
     let room : to - from ≤ (end - at) - (1 + from) = omega arith in
-    ap (λ n. take n (drop (at + 1 + from) xs)) size
-    ∙ ap (λ n. take (to - from) (drop n xs)) place
-    ∙ ap (take (to - from)) (sym (drop-drop (1 + from) at xs))
-    ∙ sym (take-take (to - from) ((end - at) - (1 + from)) (drop (1 + from) (drop at xs)) room)
-    ∙ ap (take (to - from)) (sym (drop-take (1 + from) ((end - at) - (1 + from)) (drop at xs)))
-    ∙ ap (λ n. take (to - from) (drop (1 + from) (take n (drop at xs)))) (sym left)
-    ∙ ap (take (to - from)) (sym (drop-drop from 1 (slice_range xs at end)))
+    cc (
+      drop-drop (1 + from) at xs,
+      take-take (to - from) ((end - at) - (1 + from)) (drop (1 + from) (drop at xs)) room,
+      drop-take (1 + from) ((end - at) - (1 + from)) (drop at xs),
+      drop-drop from 1 (slice_range xs at end),
+    )
 
 pub first_part : (xs : Texts) (at end n start stop : ℕ) → at + (n + 2) ≤ end → start ≡ at + 1 → stop ≡ start + n
     → slice_range xs start stop ≡ slice_range (drop 1 (slice_range xs at end)) 0 n
@@ -58,9 +52,7 @@ pub next_line : (xs : Texts) (n end : ℕ) → n < end → end ≤ length xs
 next_line xs n end h within =
     let some : end - n ≡ suc (end - (n + 1)) = omega arith in
     let here : n < length xs = omega arith in
-    ap (λ k. take k (drop n xs)) some
-    ∙ ap (take (suc (end - (n + 1)))) (drop-cons xs n [] here)
-    ∙ ap (λ k. get_or xs n [] ∷ take (end - (n + 1)) (drop k xs)) (sym (add-one n))
+    cc (drop-cons xs n [] here, add-one n)
 
 -- all lines from a place on
 pub next_line_of_all : (xs : Texts) (n : ℕ) → n < length xs → drop n xs ≡ get_or xs n [] ∷ drop (n + 1) xs
@@ -74,49 +66,33 @@ pub made_more : (f : List ℕ → List ℕ) (xs front more whole : Texts) (line 
     → more ≡ front ++ line ∷ [] → line ≡ f (get_or xs n []) → front ++ map f (slice_range xs n end) ≡ whole
     → more ++ map f (slice_range xs (n + 1) end) ≡ whole
 made_more f xs front more whole line n end h within e is so_far =
-    ap (λ ls. ls ++ map f (slice_range xs (n + 1) end)) e
-    ∙ append_assoc front (line ∷ []) (map f (slice_range xs (n + 1) end))
-    ∙ ap (λ l. front ++ l ∷ map f (slice_range xs (n + 1) end)) is
-    ∙ sym (ap (λ ls. front ++ map f ls) (next_line xs n end h within))
-    ∙ so_far
+    cc (append_assoc front (line ∷ []) (map f (slice_range xs (n + 1) end)), next_line xs n end h within)
 
 -- the lines themselves, one more at a time
 pub copied_more : (xs front more whole : Texts) (line : List ℕ) (n end : ℕ) → n < end → end ≤ length xs → more ≡ front ++ line ∷ []
     → line ≡ get_or xs n [] → front ++ slice_range xs n end ≡ whole → more ++ slice_range xs (n + 1) end ≡ whole
 copied_more xs front more whole line n end h within e is so_far =
-    ap (λ ls. ls ++ slice_range xs (n + 1) end) e
-    ∙ append_assoc front (line ∷ []) (slice_range xs (n + 1) end)
-    ∙ ap (λ l. front ++ l ∷ slice_range xs (n + 1) end) is
-    ∙ sym (ap (λ ls. front ++ ls) (next_line xs n end h within))
-    ∙ so_far
+    cc (append_assoc front (line ∷ []) (slice_range xs (n + 1) end), next_line xs n end h within)
 
 -- none is left
 pub no_line : (xs : Texts) (n end : ℕ) → end ≤ n → slice_range xs n end ≡ []
-no_line xs n end h =
-    let none : end - n ≡ 0 = omega arith in
-    ap (λ k. take k (drop n xs)) none
+no_line xs n end h = let none : end - n ≡ 0 = omega arith in cc
 
 drop_index : (xs : Texts) (n k : ℕ) → get_or (drop n xs) k [] ≡ get_or xs (n + k) []
 drop_index xs zero k = ap (λ m. get_or xs m []) (omega arith)
 drop_index [] (suc n) k = refl
-drop_index (x ∷ xs) (suc n) k =
-    let place : suc (n + k) ≡ suc n + k = omega arith in
-    drop_index xs n k ∙ ap (λ m. get_or (x ∷ xs) m []) place
+drop_index (x ∷ xs) (suc n) k = let place : suc (n + k) ≡ suc n + k = omega arith in cc (drop_index xs n k)
 
 take_index : (xs : Texts) (n k : ℕ) → k < n → get_or (take n xs) k [] ≡ get_or xs k []
 take_index xs zero k h = absurd (omega (arith, h))
-take_index [] (suc n) k h = refl
-take_index (x ∷ xs) (suc n) zero h = refl
 take_index (x ∷ xs) (suc n) (suc k) h = take_index xs n k (omega (arith, h))
+take_index other (suc n) k h = refl
 
 -- a line after the next one
 pub later_line : (xs : Texts) (at end n : ℕ) → at + (n + 2) ≤ end → get_or (drop 1 (slice_range xs at end)) n [] ≡ get_or xs (at + 1 + n) []
 later_line xs at end n h =
     let place : at + (1 + n) ≡ at + 1 + n = omega arith in
-    drop_index (slice_range xs at end) 1 n
-    ∙ take_index (drop at xs) (end - at) (1 + n) (omega (arith, h))
-    ∙ drop_index xs at (1 + n)
-    ∙ ap (λ k. get_or xs k []) place
+    cc (drop_index (slice_range xs at end) 1 n, take_index (drop at xs) (end - at) (1 + n) (omega (arith, h)), drop_index xs at (1 + n))
 
 -- ---- the end of a block
 

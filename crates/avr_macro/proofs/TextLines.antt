@@ -1,7 +1,6 @@
 -- Steps of the loops over the bytes of a text: lines that end, and a line in a call.
-use Rattle.std.proofs.Common.{◌≡◌, ◌≢◌, ℕ, ◌+◌, ◌<◌, ◌≤◌, Bool, false, not, cond, List, [], ◌∷◌, ◌++◌, length, get_or, drop}
-use Rattle.std.proofs.Common.{refl, sym, ◌∙◌, ap, append_assoc, arith}
-use Rattle.std.specs.Prelude.{◌==◌, ◌&&◌}
+use Rattle.std.proofs.Common.{◌≡◌, ◌≢◌, ℕ, ◌+◌, ◌<◌, ◌≤◌, Bool, false, not, List, [], ◌∷◌, ◌++◌, length, get_or, drop, refl, ap}
+use Rattle.std.proofs.Common.{append_assoc, arith, ◌==◌, ◌&&◌}
 use Rattle.std.specs.Str.Lines.{strip_carriage_return}
 use Rattle.std.proofs.lemmas.Bool.Decides.{nat_tests}
 use Rattle.std.proofs.lemmas.List.{append-nil, at_drop_all, at_drop_more, length-append}
@@ -21,21 +20,17 @@ pub line_ended : (lines more : Texts) (line cut lent next text : List ℕ) (n : 
     → cut ≡ strip_carriage_return line → lent ≡ cut → more ≡ lines ++ lent ∷ [] → next ≡ []
     → more ++ lines_from next (drop (n + 1) text) ≡ lines ++ lines_from line (drop n text)
 line_ended lines more line cut lent next text n within ends is lends adds clears =
-    ap (λ m. m ++ lines_from next (drop (n + 1) text)) (adds ∙ ap (λ l. lines ++ l ∷ []) (lends ∙ is))
-    ∙ ap (λ l. (lines ++ strip_carriage_return line ∷ []) ++ lines_from l (drop (n + 1) text)) clears
-    ∙ append_assoc lines (strip_carriage_return line ∷ []) (lines_from [] (drop (n + 1) text))
-    ∙ sym (ap (λ b. lines ++ lines_from line (b ∷ drop (n + 1) text)) ends)
-    ∙ sym (at_drop_more (λ t. lines ++ lines_from line t) text n 0 within)
+    cc (
+      append_assoc lines (strip_carriage_return line ∷ []) (lines_from [] (drop (n + 1) text)),
+      at_drop_more (λ t. lines ++ lines_from line t) text n 0 within,
+    )
 
 -- one more byte of the line
 pub line_longer : (lines : Texts) (line next text : List ℕ) (n : ℕ) → n < length text → get_or text n 0 ≢ 10
     → next ≡ line ++ get_or text n 0 ∷ []
     → lines ++ lines_from next (drop (n + 1) text) ≡ lines ++ lines_from line (drop n text)
 line_longer lines line next text n within other adds =
-    ap (λ l. lines ++ lines_from l (drop (n + 1) text)) adds
-    ∙ sym (ap (λ t. lines ++ cond t (strip_carriage_return line ∷ lines_from [] (drop (n + 1) text))
-    (lines_from (line ++ get_or text n 0 ∷ []) (drop (n + 1) text))) (other_byte (get_or text n 0) other))
-    ∙ sym (at_drop_more (λ t. lines ++ lines_from line t) text n 0 within)
+    cc (other_byte (get_or text n 0) other, at_drop_more (λ t. lines ++ lines_from line t) text n 0 within)
 
 pub few_ended : (lines more : Texts) (line lent next : List ℕ) (n : ℕ) → length lines + length line ≤ n → more ≡ lines ++ lent ∷ []
     → next ≡ [] → length more + length next ≤ n + 1
@@ -59,15 +54,13 @@ none_last (b ∷ bs) len e h = absurd (omega (arith, h, e))
 pub last_told : (lines more : Texts) (line lent text : List ℕ) (n len : ℕ) → length text ≤ n → len ≡ length line → 0 < len
     → lent ≡ line → more ≡ lines ++ lent ∷ [] → more ≡ lines ++ lines_from line (drop n text)
 last_told lines more line lent text n len ends same some lends adds =
-    adds ∙ ap (λ l. lines ++ l ∷ []) lends ∙ sym (ap (λ l. lines ++ l) (last_is line len same some))
-    ∙ sym (at_drop_all (λ t. lines ++ lines_from line t) text n ends)
+    cc (last_is line len same some, at_drop_all (λ t. lines ++ lines_from line t) text n ends)
 
 -- no line without an end
 pub none_told : (lines : Texts) (line text : List ℕ) (n len : ℕ) → length text ≤ n → len ≡ length line → len ≤ 0
     → lines ≡ lines ++ lines_from line (drop n text)
 none_told lines line text n len ends same none =
-    sym (append-nil lines) ∙ sym (ap (λ l. lines ++ l) (none_last line len same none))
-    ∙ sym (at_drop_all (λ t. lines ++ lines_from line t) text n ends)
+    cc (append-nil lines, none_last line len same none, at_drop_all (λ t. lines ++ lines_from line t) text n ends)
 
 -- ---- a line in a call
 
@@ -76,7 +69,7 @@ pub byte_put : (arguments : Texts) (call : ℕ) (named after : Bool) (text line 
     → next ≡ line ++ put_byte arguments call named (get_or text n 0) → after ≡ (not named && get_or text n 0 == 64)
     → next ++ replaced_from arguments call after (drop (n + 1) text) ≡ line ++ replaced_from arguments call named (drop n text)
 byte_put arguments call named after text line next n within adds then =
-    ap (λ l. l ++ replaced_from arguments call after (drop (n + 1) text)) adds
-    ∙ append_assoc line (put_byte arguments call named (get_or text n 0)) (replaced_from arguments call after (drop (n + 1) text))
-    ∙ ap (λ t. line ++ (put_byte arguments call named (get_or text n 0) ++ replaced_from arguments call t (drop (n + 1) text))) then
-    ∙ sym (at_drop_more (λ t. line ++ replaced_from arguments call named t) text n 0 within)
+    cc (
+      append_assoc line (put_byte arguments call named (get_or text n 0)) (replaced_from arguments call after (drop (n + 1) text)),
+      at_drop_more (λ t. line ++ replaced_from arguments call named t) text n 0 within,
+    )

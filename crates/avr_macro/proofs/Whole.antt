@@ -15,6 +15,7 @@ use Rattle.avr_macro.specs.Expansion.{first_place, flat_end, refused_end}
 use Rattle.avr_macro.specs.Answers.{Agrees, CameOf, CutBy, FailsFirst, IsAsked, IsCutOff, IsRefused, flat_seen, refused_seen}
 use Rattle.avr_macro.proofs.Paths.{asked_begins, names_begin, one_end}
 use Rattle.avr_macro.proofs.Reasons.{line_reason, file_reason, stays_short}
+use Rattle.std.proofs.lemmas.Bool.Decides.{nat_tests}
 
 -- ---- the flat text
 
@@ -31,20 +32,15 @@ flat_expands files load_fault name names flat (bytes, s, held, short, r, e, t, o
 -- ---- the refusal
 
 lacks_last : (files : Option FileMap) (names : List (List ℕ)) (name : List ℕ) → LacksFile files name → LacksLast files (names ++ name ∷ [])
-lacks_last files [] name h = h
-lacks_last files (n ∷ []) name h = h
 lacks_last files (n ∷ m ∷ names) name h = lacks_last files (m ∷ names) name h
+lacks_last files other name h = h
 
 -- the parts of a refusal
 same_names : (a b : List (List ℕ)) (p q : Origin) (x y : MacroWhy) → refused_end a p x ≡ refused_end b q y → a ≡ b
 same_names a b p q x y e = ap (λ (end : End). end.names) e
 
 same_reason : (a b : List (List ℕ)) (p q : Origin) (x y : MacroWhy) → refused_end a p x ≡ refused_end b q y → x ≡ y
-same_reason a b p q x y e = let k : ◌≡◌ {A = Result FlatText Refusal} (Err (record { at = p; reason = x }))
-    (Err (record { at = q; reason = y })) = ap (λ (end : End). end.answer) e in reason_of _ _ k
-  where
-    reason_of : (v w : Refusal) → ◌≡◌ {A = Result FlatText Refusal} (Err v) (Err w) → v.reason ≡ w.reason
-    reason_of v w k = let r : v ≡ w = cc in ap (λ (z : Refusal). z.reason) r
+same_reason a b p q x y e = grind (arith, nat_tests)
 
 not_flat : (a b : List (List ℕ)) (s : State) (q : Origin) (y : MacroWhy) → flat_end a s ≡ refused_end b q y → ⊥
 not_flat a b s q y e =
@@ -62,15 +58,13 @@ reason_told files names later s at reason _ h (ends_refused level outer r d) is 
     inr (λ u. line_reason level (around outer s) r h d.does (same_reason names later level.origin at r reason is ∙ u))
 reason_told files names later s at reason _ h (ends_unread level outer name d lacks) is =
     inl (
-      sym (same_reason (names ++ name ∷ []) later level.origin at Unread reason is),
-      subst (LacksLast files)
-          (same_names (names ++ name ∷ []) later level.origin at Unread reason is) (lacks_last files names name lacks),
+      sym (same_reason _ _ _ _ _ _ is),
+      subst (LacksLast files) (same_names _ _ _ _ _ _ is) (lacks_last _ names _ lacks),
     )
 reason_told files names later s at reason _ h (ends_too_long level outer name d longer) is =
     inr (λ u. let k : TooLong ≡ Unread = same_reason (names ++ name ∷ []) later level.origin at TooLong reason is ∙ u in cc)
 reason_told files names later s at reason _ h (ends_loaded level outer name bytes r d held short i) is =
-    inr (λ u. file_reason (length names) bytes level (around outer s) r h i (same_reason (names ++ name ∷ []) later level.origin at r reason
-    is ∙ u))
+    inr (λ u. file_reason (length names) bytes level (around outer s) _ h i (same_reason _ _ _ _ _ _ is ∙ u))
 
 told : (files : Option FileMap) (names : List (List ℕ)) (reason : MacroWhy) → Lacking files names reason → reason ≡ Unread → LacksLast files
     names
@@ -107,17 +101,14 @@ refused_cut files load_fault name bytes names there s e held short r (inr (inl (
 refused_cut files load_fault name bytes names there s e held short r (inr (inr x)) =
     inr (inr (
       expands_lines bytes there s held short r x,
-      told files names e.why
-          (reason_told files there names s e.at e.why (refused_seen names e) (stays_short files (name ∷ []) (first_state bytes) there s
-          (omega arith) r) x refl),
+      told files names _ (reason_told _ _ _ _ _ _ _ (stays_short _ _ _ _ _ (omega arith) r) x refl),
     ))
 
 pub refusal : (files : Option FileMap) (load_fault : Type 0) (name : List ℕ) (names : List (List ℕ)) (e : MacroError) → IsCutOff files
     load_fault name names e → IsRefused files load_fault name names e
 refusal files load_fault name names e (inl (m, none)) = inl m
 refusal files load_fault name names e (inr (inl (is, f))) = refused_first files load_fault name names e is f
-refusal files load_fault name names e (inr (inr (bytes, held, short, c))) = refused_cut files load_fault name bytes names c.names c.state e
-    held short c.reached c.cut
+refusal files load_fault name names e (inr (inr (bytes, held, short, c))) = refused_cut _ _ _ _ _ _ _ _ held short c.reached c.cut
 
 -- ---- one end, over a shelf that tells its files
 
@@ -139,25 +130,23 @@ arrives m name bytes end e h (expands_lines other there s held short r x) =
     record {
       there = there;
       state = s;
-      way = subst (λ b. Reaches (Some m) (name ∷ []) (first_state b) there s)
-          (same_bytes m name other bytes held e) r;
+      way = subst (λ b. Reaches (Some m) (name ∷ []) (first_state b) there s) (same_bytes _ _ _ _ held e) r;
       ends = x;
     }
 
 pub unique : (m : FileMap) (name : List ℕ) (x y : End) → Expands (Some m) name x → Expands (Some m) name y → x ≡ y
-unique m name _ _ (expands_lacking none) (expands_lacking more) = refl
 unique m name _ _ (expands_lacking none) (expands_too_long longer) = let k : ◌≡◌ {A = Option (List ℕ)} (Some longer.0) None = sym longer.1
     ∙ none in absurd cc
 unique m name _ y (expands_lacking none) (expands_lines bytes there s held short r x) = let k : ◌≡◌ {A = Option (List ℕ)} (Some bytes)
     None = sym held ∙ none in absurd cc
 unique m name _ _ (expands_too_long longer) (expands_lacking none) = let k : ◌≡◌ {A = Option (List ℕ)} (Some longer.0) None = sym longer.1
     ∙ none in absurd cc
-unique m name _ _ (expands_too_long longer) (expands_too_long more) = refl
 unique m name _ y (expands_too_long longer) (expands_lines bytes there s held short r x) =
     absurd (let k : longer.0 ≡ bytes = same_bytes m name longer.0 bytes longer.1 held in omega (arith, ap length k, longer.2, short))
 unique m name x y (expands_lines bytes there s held short r ex) other =
     let a = arrives m name bytes y held short other in
     one_end m (name ∷ []) there a.there (first_state bytes) s a.state x y r ex a.way a.ends
+unique m name _ _ other rest = refl
 
 -- the answer agrees with the end
 agrees_at : (m : FileMap) (load_fault : Type 0) (name : List ℕ) (names : List (List ℕ)) (e : MacroError) (end : End) → Expands (Some m) name
@@ -175,10 +164,8 @@ agrees_fails : (m : FileMap) (load_fault : Type 0) (name : List ℕ) (e : MacroE
     → Expands (Some m) name end → Agrees load_fault (Err e) end
 agrees_fails m load_fault name e end (inl w) y = inl w
 agrees_fails m load_fault name e end (inr (at, inl (u, inl fault))) y = inr (inl (u, fault))
-agrees_fails m load_fault name e end (inr (at, inl (u, inr lacks))) y = agrees_first m load_fault name e end Unread at u
-    (expands_lacking lacks) y
-agrees_fails m load_fault name e end (inr (at, inr (t, longer))) y = agrees_first m load_fault name e end TooLong at t
-    (expands_too_long longer) y
+agrees_fails m load_fault name e end (inr (at, inl (u, inr lacks))) y = agrees_first _ _ _ _ _ _ at u (expands_lacking lacks) y
+agrees_fails m load_fault name e end (inr (at, inr (t, longer))) y = agrees_first _ _ _ _ _ _ at t (expands_too_long longer) y
 
 agrees_cut : (m : FileMap) (load_fault : Type 0) (name bytes : List ℕ) (names there : List (List ℕ)) (s : State) (e : MacroError)
     (end : End) → get m name ≡ Some bytes → length bytes ≤ 1048576
@@ -201,39 +188,33 @@ agrees_told m load_fault name names (Err e) end (inr (inr (bytes, held, short, c
 pub agrees : (files : Option FileMap) (load_fault : Type 0) (name : List ℕ) (names : List (List ℕ)) (result : Result Flat MacroError)
     (m : FileMap) (end : End) → CameOf files load_fault name names result → files ≡ Some m → Expands (Some m) name end → Agrees load_fault
     result end
-agrees files load_fault name names result m end c e y = agrees_told m load_fault name names result end
-    (subst (λ f. CameOf f load_fault name names result) e c) y
+agrees files load_fault name names result m end c e y = agrees_told _ _ _ _ _ _ (subst (λ f. CameOf f load_fault name names result) e c) y
 
 -- the names are the first ones of the end's
 first_begins : (m : FileMap) (name : List ℕ) (end : End) → Expands (Some m) name end → BeginsWith (name ∷ []) end.names
-first_begins m name _ (expands_lacking none) = ([], refl)
-first_begins m name _ (expands_too_long longer) = ([], refl)
-first_begins m name end (expands_lines bytes there s held short r x) = names_begin m (name ∷ []) (name ∷ []) there (first_state bytes)
-    (first_state bytes) s end reaches_here r x
+first_begins m name end (expands_lines bytes there s held short r x) = names_begin _ _ _ _ _ _ _ _ reaches_here r x
+first_begins m name _ other = ([], refl)
 
 begins_from : (m : FileMap) (name bytes : List ℕ) (there names : List (List ℕ)) (s : State) (end : End) → Reaches (Some m) (name ∷ [])
     (first_state bytes) there s → IsAsked there s names → Arrives m name bytes end → BeginsWith names end.names
 begins_from m name bytes there names s end r (inl is) a = subst (λ n. BeginsWith n end.names) (sym is)
     (names_begin m (name ∷ []) there a.there (first_state bytes) s a.state end r a.way a.ends)
 begins_from m name bytes there names s end r (inr (level, outer, asked, d, is)) a =
-    subst (λ n. BeginsWith n end.names) (sym is) (asked_begins m (name ∷ []) there a.there (first_state bytes) s a.state end level outer
-    asked r a.way a.ends d)
+    subst (λ n. BeginsWith n end.names) (sym is) (asked_begins _ _ _ _ _ _ _ _ _ _ _ r a.way a.ends d)
 
 begins_told : (m : FileMap) (load_fault : Type 0) (name : List ℕ) (names : List (List ℕ)) (result : Result Flat MacroError) (end : End)
     → CameOf (Some m) load_fault name names result → Expands (Some m) name end → BeginsWith names end.names
 begins_told m load_fault name names (Ok flat) end (bytes, s, held, short, r, e, t, o) y = begins_from m name bytes names names s end r
     (inl refl) (arrives m name bytes end held short y)
 begins_told m load_fault name names (Err e) end (inl (w, none)) y = subst (λ n. BeginsWith n end.names) (sym none) (end.names, refl)
-begins_told m load_fault name names (Err e) end (inr (inl (is, f))) y = subst (λ n. BeginsWith n end.names) (sym is)
-    (first_begins m name end y)
+begins_told m load_fault name names (Err e) end (inr (inl (is, f))) y = subst (λ n. BeginsWith n end.names) (sym is) (first_begins _ _ _ y)
 begins_told m load_fault name names (Err e) end (inr (inr (bytes, held, short, c))) y = begins_from m name bytes c.names names c.state end
     c.reached c.asked (arrives m name bytes end held short y)
 
 pub begins : (files : Option FileMap) (load_fault : Type 0) (name : List ℕ) (names : List (List ℕ)) (result : Result Flat MacroError)
     (m : FileMap) (end : End) → CameOf files load_fault name names result → files ≡ Some m → Expands (Some m) name end → BeginsWith names
     end.names
-begins files load_fault name names result m end c e y = begins_told m load_fault name names result end
-    (subst (λ f. CameOf f load_fault name names result) e c) y
+begins files load_fault name names result m end c e y = begins_told _ _ _ _ _ _ (subst (λ f. CameOf f load_fault name names result) e c) y
 
 -- ---- the clauses of the answer
 

@@ -1,8 +1,7 @@
 -- One more piece of a text.
 use Rattle.std.proofs.Common.{◌≡◌, ℕ, zero, suc, ◌+◌, ◌-◌, ◌<◌, ◌≤◌, List, [], ◌∷◌, ◌++◌, length, drop, refl, sym, ◌∙◌, ap, append_assoc}
-use Rattle.std.proofs.Common.{append-nil, drop-cons, drop-drop, arith}
+use Rattle.std.proofs.Common.{append-nil, drop-cons, drop-drop, arith, Ok, Err}
 use Rattle.std.proofs.lemmas.List.{drop_all}
-use Rattle.std.specs.Prelude.{Ok, Err}
 use Rattle.avr_text.specs.declared.pieces.Piece.TheVariants.{Gap, Fault}
 use Rattle.avr_text.specs.declared.pieces.Piece.TheVariants as piece
 use Rattle.avr_text.specs.declared.tokens.TokenKind.{TokenKind}
@@ -30,9 +29,7 @@ skipped : (skip at line : ℕ) (bs : List ℕ) → cut_from skip at line bs ≡ 
 unfolding cut_from
 skipped zero at line bs = let e : at + 0 ≡ at = omega arith in ap (λ n. cut_from 0 n line bs) (sym e)
 skipped (suc skip) at line [] = refl
-skipped (suc skip) at line (b ∷ bs) =
-    let e : at + 1 + skip ≡ at + suc skip = omega arith in
-    skipped skip (at + 1) line bs ∙ ap (λ n. cut_from 0 n line (drop skip bs)) e
+skipped (suc skip) at line (b ∷ bs) = let e : at + 1 + skip ≡ at + suc skip = omega arith in cc (skipped skip (at + 1) line bs)
 
 -- the piece at a byte of a text, and what comes after it
 piece_there : (text : List ℕ) (at line : ℕ) → at < length text → cut_from 0 at line (drop at text) ≡ after_piece (piece_at (drop at text))
@@ -50,20 +47,16 @@ past text at n line h =
 
 pub cut_gap : (text : List ℕ) (at line n : ℕ) → at < length text → 0 < n → piece_at (drop at text) ≡ Gap n → cut_from 0 at line
     (drop at text) ≡ cut_from 0 (at + n) line (drop (at + n) text)
-cut_gap text at line n h some e = piece_there text at line h
-    ∙ ap (λ p. after_piece p at line (λ skip next. cut_from skip (at + 1) next (drop (suc at) text))) e ∙ past text at n line some
+cut_gap text at line n h some e = cc (piece_there text at line h, past text at n line some)
 
 pub cut_token : (text : List ℕ) (at line : ℕ) (k : TokenKind) (n : ℕ) → at < length text → 0 < n → piece_at (drop at text) ≡ piece.Token k n
     → cut_from 0 at line (drop at text) ≡ with_first (record { kind = k; line = line; from = at; to = at + n })
     (cut_from 0 (at + n) (line_after k line) (drop (at + n) text))
-cut_token text at line k n h some e =
-    piece_there text at line h ∙ ap (λ p. after_piece p at line (λ skip next. cut_from skip (at + 1) next (drop (suc at) text))) e
-    ∙ ap (with_first (record { kind = k; line = line; from = at; to = at + n })) (past text at n (line_after k line) some)
+cut_token text at line k n h some e = cc (piece_there text at line h, past text at n (line_after k line) some)
 
 pub cut_fault : (text : List ℕ) (at line : ℕ) (why : LexWhy) → at < length text → piece_at (drop at text) ≡ Fault why → cut_from 0 at line
     (drop at text) ≡ Err (record { line = line; why = why })
-cut_fault text at line why h e = piece_there text at line h
-    ∙ ap (λ p. after_piece p at line (λ skip next. cut_from skip (at + 1) next (drop (suc at) text))) e
+cut_fault text at line why h e = cc (piece_there text at line h)
 
 -- no byte is left
 pub cut_end : (text : List ℕ) (at line : ℕ) → length text ≤ at → cut_from 0 at line (drop at text) ≡ Ok []
@@ -95,7 +88,5 @@ pub token_more : (text : List ℕ) (at line : ℕ) (k : TokenKind) (n : ℕ) (fr
 token_more text at line k n front more next h some e is_more is_next =
     ap (λ xs. with_front xs (cut_from 0 (at + n) next (drop (at + n) text))) is_more
     ∙ ap (λ l. with_front (front ++ record { kind = k; line = line; from = at; to = at + n } ∷ [])
-    (cut_from 0 (at + n) l (drop (at + n) text))) is_next
-    ∙ with_front_more front (record { kind = k; line = line; from = at; to = at + n })
-    (cut_from 0 (at + n) (line_after k line) (drop (at + n) text))
-    ∙ ap (with_front front) (sym (cut_token text at line k n h some e))
+    (cut_from 0 (at + n) l (drop (at + n) text))) is_next ∙ with_front_more _ _ _
+    ∙ ap (with_front front) (sym (cut_token _ _ _ _ _ h some e))

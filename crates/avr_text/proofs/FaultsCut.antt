@@ -1,8 +1,7 @@
 -- A text with a fault is refused with that fault, and what a cut gives is what the text spells.
-use Rattle.std.proofs.Common.{◌≡◌, ℕ, ◌<◌, true, cond, List, [], ◌∷◌, ◌++◌, length, drop, refl, sym, ◌∙◌, ap, subst}
-use Rattle.std.proofs.Common.{append-nil, Vec, Global, arith}
+use Rattle.std.proofs.Common.{◌≡◌, ℕ, ◌<◌, true, cond, List, [], ◌∷◌, ◌++◌, length, drop, refl, sym, ◌∙◌, ap, subst, append-nil, Vec}
+use Rattle.std.proofs.Common.{Global, arith, ◌↔◌, Result, Ok, Err}
 use Rattle.std.proofs.lemmas.List.{length-drop}
-use Rattle.std.specs.Prelude.{◌↔◌, Result, Ok, Err}
 use Rattle.avr_text.specs.declared.pieces.Piece.{Piece}
 use Rattle.avr_text.specs.declared.pieces.Piece.TheVariants as piece
 use Rattle.avr_text.specs.declared.tokens.TokenKind.TheVariants.{Name}
@@ -14,7 +13,7 @@ use Rattle.avr_text.specs.Characters.{is_word}
 use Rattle.avr_text.specs.Numbers.{number_of}
 use Rattle.avr_text.specs.Pieces.{number_piece, piece_at}
 use Rattle.avr_text.specs.Tokens.{tokens_of, GivesTokens}
-use Rattle.avr_text.specs.Spans.{Stops, IsGap, gap_none, IsWord, IsSpelled, NothingBegins, FaultAt, line_of, HasFault}
+use Rattle.avr_text.specs.Spans.{Stops, IsGap, gap_none, IsWord, IsSpelled, NothingBegins, FaultAt, HasFault}
 use Rattle.avr_text.proofs.Cuts.{with_front, cut_fault}
 use Rattle.avr_text.proofs.PiecesFound.{PieceSays, piece_says}
 use Rattle.avr_text.proofs.SpansFound.{CutSays, cut_says}
@@ -42,8 +41,7 @@ fault_piece (b ∷ us) lex_why.Byte some fault = nothing (b ∷ us) (piece_at (b
 fault_piece (b ∷ us) lex_why.Number some fault =
     let word = fault.0 in
     let after = fault.1 in
-    ap piece_at fault.2
-    ∙ word_first word after (piece.Fault lex_why.Number) fault.3
+    ap piece_at fault.2 ∙ word_first _ _ _ fault.3
     (ap (λ d. cond d (number_piece (length word) (number_of word)) (piece.Token Name (length word))) fault.4
     ∙ ap (number_piece (length word)) fault.5)
 fault_piece (b ∷ us) lex_why.Memory some fault = absurd fault
@@ -53,10 +51,8 @@ module _ (text : List ℕ) where
   unfolding tokens_of
   fault_cut fault h =
       let some : 0 < length (drop h.place text) = omega (arith, length-drop h.place text, h.within) in
-      spelled_to text h.place (omega (arith, h.within)) h.tokens 0 1 refl h.before
-      ∙ ap (with_front h.tokens) (cut_fault text h.place (line_of text h.place) fault.why h.within
-      (fault_piece (drop h.place text) fault.why some h.why))
-      ∙ ap (λ l. Err (record { line = l; why = fault.why })) (sym h.line)
+      spelled_to _ _ (omega (arith, h.within)) _ _ _ refl h.before ∙ ap (with_front h.tokens) (cut_fault _ _ _ _ h.within
+      (fault_piece _ _ some h.why)) ∙ ap (λ l. Err (record { line = l; why = fault.why })) (sym h.line)
 
   -- what the cut gives
   pub cut_spelled : (tokens : List Token) → (tokens_of text ≡ Ok tokens) ↔ IsSpelled text tokens

@@ -1,6 +1,5 @@
 -- Fields with one value are one.
-use Rattle.std.proofs.Common.{◌≡◌, ℕ, suc, ◌-◌, ◌*◌, ◌%◌, ◌^◌, ◌<◌, ◌≤◌, refl, sym, ◌∙◌, ap, subst, arith, rules, ℤ, pos, FitsSigned, to_z}
-use Rattle.std.proofs.Common.{of_z, w64}
+use Rattle.std.proofs.Common.{◌≡◌, ℕ, ◌-◌, ◌*◌, ◌%◌, ◌^◌, ◌<◌, ◌≤◌, refl, ◌∙◌, ap, subst, arith, rules, ℤ, pos, FitsSigned, to_z, of_z, w64}
 use Rattle.std.specs.Prelude.{negsuc, unsigned_abs}
 use Rattle.std.specs.Int.{int_rem_euclid}
 use Rattle.std.proofs.Math.Bridge.{le_prop}
@@ -10,6 +9,7 @@ use Rattle.std.proofs.lemmas.Nat.{pow_pos, one_shl}
 use Rattle.std.proofs.lemmas.Int.{ints, to_z-of_z}
 use Rattle.avr_table.specs.declared.Field.{Field}
 use Rattle.avr_text.specs.Fields.{unsigned}
+use Rattle.std.proofs.lemmas.Bool.Decides.{nat_tests}
 
 made : (b v : ℕ) → v < 2 ^ b → Field b
 made b v p = record { value = v; in_range = p }
@@ -23,17 +23,10 @@ same_field bits f g e = same_made bits f.value g.value e f.in_range g.in_range
 
 remainder_is : (b : ℕ) (z : ℤ) → unsigned_abs (int_rem_euclid z (pos (2 ^ b))) ≡ unsigned b z % 2 ^ b
 remainder_is b (pos n) = refl
-remainder_is b (negsuc n) =
-    let some = pow_pos b in
-    let below : n % 2 ^ b < 2 ^ b = mod-lt n some in
-    let e : 2 ^ b - 1 - n % 2 ^ b ≡ 2 ^ b - suc (n % 2 ^ b) = omega arith in
-    e ∙ sym (mod-eq_of_lt (omega (arith, some)))
+remainder_is b (negsuc n) = grind (arith, nat_tests, pow_pos b, mod-lt n, mod-eq_of_lt)
 
 power_is : (b : ℕ) → b ≤ 16 → to_z w64 (1 * 2 ^ b % 2 ^ 64) ≡ pos (2 ^ b)
-power_is b h =
-    let is : 1 * 2 ^ b % 2 ^ 64 ≡ 2 ^ b = one_shl b 64 (omega arith) in
-    let small : 2 ^ b ≤ 2 ^ 16 = pow_mono h in
-    omega (arith, ints, is, small)
+power_is b h = grind (arith, nat_tests, one_shl b 64 (omega arith), pow_mono h, ints)
 
 pos_fits : (v : ℕ) → v < 2 ^ 63 → FitsSigned w64 (pos v)
 pos_fits v h = search rules

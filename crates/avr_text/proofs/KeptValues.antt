@@ -14,16 +14,15 @@ use Rattle.avr_text.specs.declared.reader.Mode.{Mode}
 use Rattle.avr_text.specs.declared.reader.Mode.TheVariants as mode
 use Rattle.avr_text.specs.declared.reader.Reader.{Reader}
 use Rattle.avr_text.specs.declared.tokens.TokenKind.{TokenKind}
-use Rattle.avr_text.specs.declared.tokens.TokenKind.TheVariants.{Name, Number, Mark, ShiftLeft, ShiftRight, LineEnd}
+use Rattle.avr_text.specs.declared.tokens.TokenKind.TheVariants.{Name, Number, Mark}
 use Rattle.avr_text.specs.declared.tokens.Token.{Token}
 use Rattle.avr_text.specs.declared.values.ValueWhy.TheVariants.{Form}
 use Rattle.avr_text.specs.Arithmetic.{ValueOrWhy}
 use Rattle.avr_text.specs.Names.{NameMap, Keeps, known}
-use Rattle.avr_text.specs.Operators.{level_of, applied_to, combined, binary_of, sign_value, sign_applied, bracket_value, bracket_applied}
+use Rattle.avr_text.specs.Operators.{level_of, combined, sign_value, sign_applied, bracket_value, bracket_applied}
 use Rattle.avr_text.specs.Tokens.{text_of}
-use Rattle.avr_text.specs.Words.{bracket_word}
 use Rattle.avr_text.specs.Reading.{signed, reduced, word_or_value, mark_operand, kind_operand, in_mode, beginning, opened, closed_at}
-use Rattle.avr_text.specs.Reading.{closed, operand_step, waits, waiting, is_mark_of, operator_or_none, operator_step, bracket_step, step_in}
+use Rattle.avr_text.specs.Reading.{closed, operand_step, waits, waiting, operator_or_none, operator_step, bracket_step, step_in}
 use Rattle.avr_text.specs.Reading.{step, run, finished_in, value_of}
 
 -- a number that is found stays
@@ -39,10 +38,8 @@ stays_equal : (a b : ValueOrWhy) → b ≡ a → Stays a b
 stays_equal a b e = subst (λ x. Stays a x) (sym e) (stays_same a)
 
 stays_combined : (op : Binary) (a b c d : ValueOrWhy) → Stays a b → Stays c d → Stays (combined op a c) (combined op b d)
-stays_combined op (Err why) b c d h k = tt
-stays_combined op (Ok x) b (Err why) d h k = tt
-stays_combined op (Ok x) b (Ok y) d h k = stays_equal (applied_to op x y) (combined op b d)
-    (ap (λ o. combined op o d) h ∙ ap (combined op (Ok x)) k)
+stays_combined op (Ok x) b (Ok y) d h k = stays_equal _ _ (ap (λ o. combined op o d) h ∙ ap (combined op (Ok x)) k)
+stays_combined op other b c d h k = tt
 
 stays_sign : (kind : TokenKind) (a b : ValueOrWhy) → Stays a b → Stays (sign_applied kind a) (sign_applied kind b)
 stays_sign kind (Err why) b h = tt
@@ -97,9 +94,8 @@ record AlikeReader (s t : Reader) : Type 0 where
 
 choose_alike : (p q : Bool) (s t u v : Reader) → p ≡ q → AlikeReader s t → AlikeReader u v → AlikeReader (cond p s u) (cond q t v)
 choose_alike true true s t u v e h k = h
-choose_alike true false s t u v e h k = absurd cc
-choose_alike false true s t u v e h k = absurd cc
 choose_alike false false s t u v e h k = k
+choose_alike other rest s t u v e h k = absurd cc
 
 refused_alike : (s t : Reader) → AlikeReader s t → AlikeReader (in_mode mode.Refused s) (in_mode mode.Refused t)
 refused_alike s t h = record { stack = h.stack; depth = h.depth; mode = both_refused }
@@ -107,13 +103,9 @@ refused_alike s t h = record { stack = h.stack; depth = h.depth; mode = both_ref
 opened_alike : (bracket : Bracket) (from at next : ℕ) (s t : Reader) → AlikeReader s t → AlikeReader (opened bracket from at next s)
     (opened bracket from at next t)
 opened_alike bracket from at next s t h =
-    choose_alike (nat_le 32 s.depth || length s.stack == 256) (nat_le 32 t.depth || length t.stack == 256)
-    (in_mode mode.Refused s) (in_mode mode.Refused t)
-    (record { stack = Open bracket from at ∷ s.stack; depth = s.depth + 1; mode = mode.Operand next })
-    (record { stack = Open bracket from at ∷ t.stack; depth = t.depth + 1; mode = mode.Operand next })
+    choose_alike _ _ _ _ _ _
     (ap (λ n. nat_le 32 n || length s.stack == 256) h.depth ∙ ap (λ n. nat_le 32 t.depth || n == 256) (alike_length h.stack))
-    (refused_alike s t h)
-    (record { stack = both_open h.stack; depth = ap (λ n. n + 1) h.depth; mode = both_operand next })
+    (refused_alike _ _ h) (record { stack = both_open h.stack; depth = ap (λ n. n + 1) h.depth; mode = both_operand next })
 
 closed_at_alike : (tokens : List Token) (a b : ValueOrWhy) (s t : Reader) {es fs : List Entry} → Stays a b → s.depth ≡ t.depth → Alike es fs
     → AlikeReader (closed_at tokens a es s) (closed_at tokens b fs t)
@@ -135,14 +127,10 @@ closed_alike tokens a b s t h k =
 waiting_alike : (op : Binary) (a b : ValueOrWhy) (next : ℕ) (s t : Reader) → Stays a b → AlikeReader s t → AlikeReader (waiting op a next s)
     (waiting op b next t)
 waiting_alike op a b next s t h k = go (reduced (level_of op) a s.stack) (reduced (level_of op) b t.stack)
-    (reduced_alike (level_of op) a b h k.stack)
+    (reduced_alike _ _ _ h k.stack)
   where
     go : (q r : ValueOrWhy × List Entry) → Both q r → AlikeReader (waits op q.0 next q.1 s) (waits op r.0 next r.1 t)
-    go q r w = choose_alike (length q.1 == 256) (length r.1 == 256)
-        (record { stack = q.1; depth = s.depth; mode = mode.Refused }) (record { stack = r.1; depth = t.depth; mode = mode.Refused })
-        (record { stack = Waiting q.0 op ∷ q.1; depth = s.depth; mode = mode.Operand next })
-        (record { stack = Waiting r.0 op ∷ r.1; depth = t.depth; mode = mode.Operand next })
-        (ap (λ n. n == 256) (alike_length w.stack))
+    go q r w = choose_alike _ _ _ _ _ _ (ap (λ n. n == 256) (alike_length w.stack))
         (record { stack = w.stack; depth = k.depth; mode = both_refused })
         (record { stack = both_wait w.value w.stack; depth = k.depth; mode = both_operand next })
 
@@ -153,16 +141,11 @@ operator_alike (Some op) a b next s t h k = waiting_alike op a b next s t h k
 
 operator_step_alike : (kind : TokenKind) (tokens : List Token) (at : ℕ) (a b : ValueOrWhy) (s t : Reader) → Stays a b → AlikeReader s t
     → AlikeReader (operator_step kind tokens at a s) (operator_step kind tokens at b t)
-operator_step_alike kind tokens at a b s t h k =
-    choose_alike (is_mark_of 41 kind) (is_mark_of 41 kind) (closed tokens a s) (closed tokens b t)
-    (operator_or_none (binary_of kind) a (at + 1) s) (operator_or_none (binary_of kind) b (at + 1) t) refl
-    (closed_alike tokens a b s t h k) (operator_alike (binary_of kind) a b (at + 1) s t h k)
+operator_step_alike kind tokens at a b s t h k = choose_alike _ _ _ _ _ _ refl (closed_alike _ _ _ _ _ h k) (operator_alike _ _ _ _ _ _ h k)
 
 bracket_step_alike : (kind : TokenKind) (bracket : Bracket) (from at next : ℕ) (s t : Reader) → AlikeReader s t
     → AlikeReader (bracket_step kind bracket from at next s) (bracket_step kind bracket from at next t)
-bracket_step_alike kind bracket from at next s t k =
-    choose_alike (is_mark_of 40 kind) (is_mark_of 40 kind) (opened bracket from at next s) (opened bracket from at next t)
-    (in_mode mode.Refused s) (in_mode mode.Refused t) refl (opened_alike bracket from at next s t k) (refused_alike s t k)
+bracket_step_alike kind bracket from at next s t k = choose_alike _ _ _ _ _ _ refl (opened_alike _ _ _ _ _ _ k) (refused_alike _ _ k)
 
 data AlikeOperand : Operand → Operand → Type 0 where
   both_value : {a b : ValueOrWhy} → Stays a b → AlikeOperand (Value a) (Value b)
@@ -178,13 +161,10 @@ name_alike (Some bracket) a b h = both_same (Word bracket)
 
 kind_alike : (word : List ℕ) (kind : TokenKind) (symbols more : NameMap) (dot : Option ℤ) → Keeps symbols more
     → AlikeOperand (kind_operand word kind symbols dot) (kind_operand word kind more dot)
-kind_alike word Name symbols more dot keeps = name_alike (bracket_word word) (known (map.get symbols word)) (known (map.get more word))
-    (known_stays (map.get symbols word) (map.get more word) (keeps word))
+kind_alike word Name symbols more dot keeps = name_alike _ _ _ (known_stays _ _ (keeps word))
 kind_alike word (Number n) symbols more dot keeps = both_same (Value (Ok n))
 kind_alike word (Mark b) symbols more dot keeps = both_same (mark_operand b dot)
-kind_alike word ShiftLeft symbols more dot keeps = both_same Nothing
-kind_alike word ShiftRight symbols more dot keeps = both_same Nothing
-kind_alike word LineEnd symbols more dot keeps = both_same Nothing
+kind_alike word other symbols more dot keeps = both_same Nothing
 
 same_operand_alike : (o : Operand) (tokens : List Token) (from at : ℕ) (s t : Reader) → AlikeReader s t
     → AlikeReader (operand_step o tokens from at s) (operand_step o tokens from at t)
@@ -232,9 +212,8 @@ run_alike text tokens symbols more dot at (u ∷ us) s t keeps k =
 
 choose_stays : (p q : Bool) (a b c d : ValueOrWhy) → p ≡ q → Stays a b → Stays c d → Stays (cond p a c) (cond q b d)
 choose_stays true true a b c d e h k = h
-choose_stays true false a b c d e h k = absurd cc
-choose_stays false true a b c d e h k = absurd cc
 choose_stays false false a b c d e h k = k
+choose_stays other rest a b c d e h k = absurd cc
 
 finished_stays : (es fs : List Entry) {m n : Mode} → Alike es fs → AlikeMode m n → Stays (finished_in m es) (finished_in n fs)
 finished_stays es fs k (both_operand from) = tt
@@ -248,9 +227,8 @@ finished_stays es fs k both_refused = tt
 stays : (text : List ℕ) (tokens : List Token) (symbols more : NameMap) (dot : Option ℤ) → Keeps symbols more
     → Stays (value_of text tokens symbols dot) (value_of text tokens more dot)
 stays text tokens symbols more dot keeps =
-    let k = run_alike text tokens symbols more dot 0 tokens beginning beginning keeps
-    (record { stack = both_empty; depth = refl; mode = both_operand 0 }) in
-    finished_stays (run text tokens symbols dot 0 tokens beginning).stack (run text tokens more dot 0 tokens beginning).stack k.stack k.mode
+    let k = run_alike text tokens _ _ dot 0 tokens beginning _ keeps (record { stack = both_empty; depth = refl; mode = both_operand 0 }) in
+    finished_stays _ _ k.stack k.mode
 
 -- a value that is found stays where names keep theirs
 pub value_kept : (text : List ℕ) (tokens : List Token) (symbols more : NameMap) (dot : Option ℤ) (v : ℤ) → Keeps symbols more

@@ -1,15 +1,14 @@
 -- What the piece at the front of a text says of the bytes there.
 use Rattle.std.proofs.Common.{◌≡◌, ℕ, ◌+◌, ◌<◌, Bool, true, false, cond, List, [], ◌∷◌, ◌++◌, length, count_by, refl, sym, ◌∙◌, ap, subst}
-use Rattle.std.proofs.Common.{arith}
+use Rattle.std.proofs.Common.{arith, Option, None, Some, ◌&&◌, ◌==◌, slice_index}
 use Rattle.std.proofs.lemmas.Bool.Decides.{nat_tests}
 use Rattle.std.proofs.lemmas.List.Sums.{sum_by-cons, sum_by-append, take_while-cons}
 use Rattle.std.proofs.lemmas.List.Folds.{length-prefix_len}
-use Rattle.std.specs.Prelude.{Option, None, Some, ◌&&◌, ◌==◌, slice_index}
 use Rattle.std.specs.List.{prefix_len, take_while}
 use Rattle.avr_text.specs.declared.pieces.Piece.{Piece}
 use Rattle.avr_text.specs.declared.pieces.Piece.TheVariants as piece
 use Rattle.avr_text.specs.declared.tokens.TokenKind.{TokenKind}
-use Rattle.avr_text.specs.declared.tokens.TokenKind.TheVariants.{Name, Number, Mark, ShiftLeft, ShiftRight, LineEnd}
+use Rattle.avr_text.specs.declared.tokens.TokenKind.TheVariants.{Name, Mark, ShiftLeft, ShiftRight, LineEnd}
 use Rattle.avr_text.specs.declared.tokens.LexWhy.TheVariants as lex_why
 use Rattle.uz_hex.specs.Lines.{is_blank}
 use Rattle.avr_text.specs.Characters.{is_digit, is_word, is_mark, goes_on_line}
@@ -124,9 +123,7 @@ same a b e = grind (arith, nat_tests)
 
 both_true : (p q : Bool) → (p && q) ≡ true → (p ≡ true) × (q ≡ true)
 both_true true true e = (refl, refl)
-both_true true false e = absurd cc
-both_true false true e = absurd cc
-both_true false false e = absurd cc
+both_true other rest e = absurd cc
 
 follows : (b c : ℕ) (us : List ℕ) → 0 < c → (second (b ∷ us) == c) ≡ true → (vs : List ℕ) × (us ≡ c ∷ vs)
 follows b c [] h e = absurd (let z : 0 ≡ c = same 0 c e in omega arith)
@@ -222,12 +219,11 @@ no_word [] after s w = let some : 0 < 0 = w.some in absurd (omega arith)
 no_word (b ∷ bs) after s w = refuted (is_word b) w.letters.0 s
 
 no_token : (kind : TokenKind) (word after : List ℕ) → NoneFirst (word ++ after) → ¬ IsSpelling kind word after
-no_token Name word after n h = no_word word after n.word h.0
-no_token (Number k) word after n h = no_word word after n.word h.0
 no_token (Mark b) word after n h = refuted (is_mark b) h.0 (subst (λ w. mark_first (w ++ after) ≡ false) h.1 n.mark)
 no_token ShiftLeft word after n h = refuted true refl (subst (λ w. left_first (w ++ after) ≡ false) h n.left)
 no_token ShiftRight word after n h = refuted true refl (subst (λ w. right_first (w ++ after) ≡ false) h n.right)
 no_token LineEnd word after n h = refuted true refl (subst (λ w. end_first (w ++ after) ≡ false) h n.end)
+no_token other word after n h = no_word word after n.word h.0
 
 nothing_begins : (bytes : List ℕ) → NoneFirst bytes → NothingBegins bytes
 nothing_begins bytes n = record {

@@ -1,5 +1,5 @@
 -- One more sign.
-use Rattle.std.proofs.Common.{◌≡◌, ℕ, suc, ◌+◌, ◌-◌, ◌<◌, ◌≤◌, List, [], ◌∷◌, ◌++◌, length, get_or, take, drop, refl, sym, ◌∙◌, ap, arith}
+use Rattle.std.proofs.Common.{◌≡◌, ℕ, suc, ◌+◌, ◌-◌, ◌<◌, ◌≤◌, List, [], ◌∷◌, ◌++◌, length, get_or, take, drop, refl, ◌∙◌, ap, arith}
 use Rattle.std.proofs.Math.Seq.{take-suc}
 use Rattle.std.proofs.lemmas.List.{length-drop, get_or-drop}
 use Rattle.std.proofs.lemmas.Bool.{ltb-true}
@@ -9,6 +9,7 @@ use Rattle.avr_text.specs.declared.tokens.Token.{Token}
 use Rattle.avr_text.specs.Arithmetic.{ValueOrWhy}
 use Rattle.avr_text.specs.Operators.{sign_applied}
 use Rattle.avr_text.specs.Reading.{signed}
+use Rattle.std.proofs.lemmas.Bool.Decides.{nat_tests}
 
 signed-append : (ts : List Token) (t : Token) (v : ValueOrWhy) → signed (ts ++ t ∷ []) v ≡ signed ts (sign_applied t.kind v)
 signed-append [] t v = refl
@@ -24,17 +25,10 @@ range_more ts from i d le lt =
 pub signed_more : (ts : List Token) (from i : ℕ) (t : Token) (v : ValueOrWhy) → from ≤ i → i < length ts → t ≡ get_or ts i t
     → signed (slice_range ts from i) (sign_applied t.kind v) ≡ signed (slice_range ts from (suc i)) v
 signed_more ts from i t v le lt e =
-    let k : from + (i - from) ≡ i = omega arith in
-    let there : get_or (drop from ts) (i - from) t ≡ t = get_or-drop from ts (i - from) t ∙ ap (λ n. get_or ts n t) k ∙ sym e in
-    sym (ap (λ xs. signed xs v) (range_more ts from i t le lt) ∙ signed-append (slice_range ts from i) (get_or (drop from ts) (i - from) t)
-    v ∙ ap (λ (x : Token). signed (slice_range ts from i) (sign_applied x.kind v)) there)
+    grind (arith, nat_tests, get_or-drop from ts (i - from) t, range_more ts from i t le lt, signed-append (slice_range ts from i))
 
 -- as the loop counts
 pub signed_step : (ts : List Token) (from k : ℕ) (t : Token) (v w : ValueOrWhy) → from < k → true ≡ nat_lt (k - 1) (length ts)
     → t ≡ get_or ts
     (k - 1) t → w ≡ sign_applied t.kind v → signed (slice_range ts from (k - 1)) w ≡ signed (slice_range ts from k) v
-signed_step ts from k t v w lt test e is =
-    let last : suc (k - 1) ≡ k = omega arith in
-    let within : k - 1 < length ts = ltb-true (k - 1) (length ts) (sym test) in
-    ap (signed (slice_range ts from (k - 1))) is ∙ signed_more ts from (k - 1) t v (omega arith) within e
-    ∙ ap (λ n. signed (slice_range ts from n) v) last
+signed_step ts from k t v w lt test e is = grind (arith, nat_tests, ltb-true (k - 1), signed_more ts from (k - 1) t v (omega arith))

@@ -1,11 +1,10 @@
 -- The tokens that a text is cut into are its slices, with gaps between them, and so is all that stands before a fault.
 use Rattle.std.proofs.Common.{◌≡◌, inl, inr, ℕ, zero, suc, ◌+◌, ◌-◌, ◌<◌, ◌≤◌, List, [], ◌∷◌, ◌++◌, length, take, drop, refl, sym, ◌∙◌, ap}
-use Rattle.std.proofs.Common.{subst, drop-drop, length-append, Vec, Global, arith}
+use Rattle.std.proofs.Common.{subst, drop-drop, length-append, Vec, Global, arith, Result, Ok, Err, IfOk, IfErr}
 use Rattle.std.proofs.Math.Seq.{drop-append_seam, take-append_seam, take-append-add, take-add}
 use Rattle.std.proofs.lemmas.Bool.{cases_lt}
 use Rattle.std.proofs.lemmas.List.{length-drop}
 use Rattle.std.proofs.lemmas.List.Folds.{drop_split}
-use Rattle.std.specs.Prelude.{Result, Ok, Err, IfOk, IfErr}
 use Rattle.std.specs.List.{slice_range}
 use Rattle.avr_text.specs.declared.pieces.Piece.{Piece}
 use Rattle.avr_text.specs.declared.pieces.Piece.TheVariants as piece
@@ -19,6 +18,7 @@ use Rattle.avr_text.specs.Tokens.{Cut, with_first, line_after, cut_from, tokens_
 use Rattle.avr_text.specs.Spans.{IsGap, gap_none, IsSpelling, line_of, IsNext, SpelledTo, IsSpelled, HasFault, IsFaultOf}
 use Rattle.avr_text.proofs.Cuts.{cut_gap, cut_token, cut_fault, cut_end}
 use Rattle.avr_text.proofs.PiecesFound.{ends, ends_append, PieceSays, piece_says}
+use Rattle.std.proofs.lemmas.Bool.Decides.{nat_tests}
 
 module _ (text : List ℕ) where
   pub past_bytes : (at : ℕ) (word after : List ℕ) → drop at text ≡ word ++ after → drop (at + length word) text ≡ after
@@ -28,8 +28,7 @@ module _ (text : List ℕ) where
   word_there at word after e = ap (take (length word)) e ∙ take-append_seam word after
 
   word_slice : (at : ℕ) (word after : List ℕ) → drop at text ≡ word ++ after → slice_range text at (at + length word) ≡ word
-  word_slice at word after e = let n : at + length word - at ≡ length word = omega arith in ap (λ k. take k (drop at text)) n
-      ∙ word_there at word after e
+  word_slice at word after e = let n : at + length word - at ≡ length word = omega arith in cc (word_there at word after e)
 
   word_within : (at : ℕ) (word after : List ℕ) → drop at text ≡ word ++ after → 0 < length word → at + length word ≤ length text
   word_within at word after e some =
@@ -51,17 +50,7 @@ module _ (text : List ℕ) where
   gap_before : (at end : ℕ) (word after : List ℕ) → drop at text ≡ word ++ after → at + length word ≤ end
       → ((gap rest : List ℕ) → gap ++ rest ≡ after → IsGap gap rest → IsGap (word ++ gap) rest)
       → IsGap (slice_range text (at + length word) end) (drop end text) → IsGap (slice_range text at end) (drop end text)
-  gap_before at end word after e le more g =
-      let split : drop (at + length word) text ≡ slice_range text (at + length word) end ++ drop end text = drop_split text
-      (at + length word) end le in
-      let n : end - at ≡ length word + (end - (at + length word)) = omega arith in
-      let joins : word ++ slice_range text (at + length word) end ≡ slice_range text at end =
-      ap (λ us. word ++ take (end - (at + length word)) us) (past_bytes at word after e)
-      ∙ sym (take-append-add word after (end - (at + length word)))
-      ∙ ap (take (length word + (end - (at + length word)))) (sym e)
-      ∙ ap (λ k. take k (drop at text)) (sym n) in
-      subst (λ w. IsGap w (drop end text)) joins (more (slice_range text (at + length word) end) (drop end text)
-      (sym split ∙ past_bytes at word after e) g)
+  gap_before at end word after e le more g = grind (arith, nat_tests, drop_split, past_bytes at word after e, take-append-add word after)
 
   gap_then : (end at : ℕ) (word after : List ℕ) → drop at text ≡ word ++ after → ((gap rest : List ℕ) → gap ++ rest ≡ after → IsGap gap rest
       → IsGap (word ++ gap) rest)
@@ -129,10 +118,9 @@ module _ (text : List ℕ) where
   ended : (at line : ℕ) → length text ≤ at → at ≤ length text → CutSays at (cut_from 0 at line (drop at text))
   ended at line h le =
       let n : length text - at ≡ 0 = omega arith in
-      subst (CutSays at) (sym (cut_end text at line h)) (
+      subst (CutSays at) (sym (cut_end _ _ _ h)) (
         le,
-        subst (λ g. IsGap g (drop (length text) text))
-            (sym (ap (λ k. take k (drop at text)) n)) gap_none,
+        subst (λ g. IsGap g (drop (length text) text)) (sym (ap (λ k. take k (drop at text)) n)) gap_none,
       )
 
   -- what comes after the piece at a place
@@ -144,21 +132,19 @@ module _ (text : List ℕ) where
   piece_cut at line (piece.Gap n) h is later e says =
       let some : 0 < length says.word = omega (arith, says.some, says.len) in
       let place : at + length says.word ≡ at + n = ap (λ k. at + k) says.len in
-      let past : line ≡ line_of text (at + length says.word) = is ∙ sym (line_past at says.word says.after says.parts
+      let past : line ≡ line_of text (at + length says.word) = is ∙ sym (line_past _ _ _ says.parts
       ∙ (let q = says.quiet in omega arith)) in
-      subst (CutSays at) (ap (λ m. cut_from 0 m line (drop m text)) place ∙ sym (cut_gap text at line n h says.some e))
-      (gap_cut at says.word says.after says.parts says.more (cut_from 0 (at + length says.word) line (drop (at + length says.word) text))
-      (later (at + length says.word) line (omega arith) (word_within at says.word says.after says.parts some) past))
+      subst (CutSays at) (ap (λ m. cut_from 0 m line (drop m text)) place ∙ sym (cut_gap _ _ _ _ h says.some e))
+      (gap_cut _ _ _ says.parts says.more _ (later (at + length says.word) line (omega arith) (word_within _ _ _ says.parts some) past))
   piece_cut at line (piece.Token kind n) h is later e says =
       let some : 0 < length says.word = omega (arith, says.some, says.len) in
       let place : at + length says.word ≡ at + n = ap (λ k. at + k) says.len in
       let past : line_after kind line ≡ line_of text (at + length says.word) = says.line line ∙ ap (λ l. l + ends says.word) is
-      ∙ sym (line_past at says.word says.after says.parts) in
+      ∙ sym (line_past _ _ _ says.parts) in
       subst (CutSays at) (ap (λ m. with_first (record { kind = kind; line = line; from = at; to = m })
-      (cut_from 0 m (line_after kind line) (drop m text))) place ∙ sym (cut_token text at line kind n h says.some e))
-      (token_cut at line kind says.word says.after says.parts some says.spelled is
-      (cut_from 0 (at + length says.word) (line_after kind line) (drop (at + length says.word) text))
-      (later (at + length says.word) (line_after kind line) (omega arith) (word_within at says.word says.after says.parts some) past))
+      (cut_from 0 m (line_after kind line) (drop m text))) place ∙ sym (cut_token _ _ _ _ _ h says.some e))
+      (token_cut _ _ _ _ _ says.parts some says.spelled is _
+      (later (at + length says.word) (line_after kind line) (omega arith) (word_within _ _ _ says.parts some) past))
   piece_cut at line (piece.Fault why) h is later e says =
       subst (CutSays at) (sym (cut_fault text at line why h e)) (record {
         place = at;
@@ -177,9 +163,8 @@ module _ (text : List ℕ) where
       → CutSays at (cut_from 0 at line (drop at text))
   spans zero at line le h is = ended at line (omega arith) le
   spans (suc fuel) at line le h is = elim (cases_lt at (length text)) [
-    | inl lt ↦ piece_cut at line (piece_at (drop at text)) lt is (λ m l a b c. spans fuel m l b (omega arith) c) refl
-        (says_there at (drop at text) refl lt)
-    | inr ge ↦ ended at line ge le
+    | inl lt ↦ piece_cut _ _ _ lt is (λ m l a b c. spans fuel m l b (omega arith) c) refl (says_there _ _ refl lt)
+    | inr ge ↦ ended _ _ ge le
   ]
 
   pub cut_says : CutSays 0 (tokens_of text)

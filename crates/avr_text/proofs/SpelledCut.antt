@@ -1,11 +1,10 @@
 -- A text that tokens and gaps spell is cut into these tokens.
 use Rattle.std.proofs.Common.{◌≡◌, ℕ, suc, ◌+◌, ◌-◌, ◌<◌, ◌≤◌, Bool, true, false, cond, List, [], ◌∷◌, ◌++◌, length, drop, refl, sym, ◌∙◌}
-use Rattle.std.proofs.Common.{ap, subst, append_assoc, length-append, Vec, Global, arith}
+use Rattle.std.proofs.Common.{ap, subst, append_assoc, length-append, Vec, Global, arith, Result, Ok, Err, ◌==◌}
 use Rattle.std.proofs.lemmas.Bool.Decides.{nat_tests}
 use Rattle.std.proofs.lemmas.List.{length-drop, length-take}
 use Rattle.std.proofs.lemmas.List.Sums.{take_while-cons}
 use Rattle.std.proofs.lemmas.List.Folds.{drop_split}
-use Rattle.std.specs.Prelude.{Result, Ok, Err, ◌==◌}
 use Rattle.std.specs.List.{prefix_len, take_while, slice_range}
 use Rattle.avr_text.specs.declared.pieces.Piece.{Piece}
 use Rattle.avr_text.specs.declared.pieces.Piece.TheVariants as piece
@@ -16,7 +15,7 @@ use Rattle.avr_text.specs.declared.tokens.LexError.{LexError}
 use Rattle.uz_hex.specs.Lines.{is_blank}
 use Rattle.avr_text.specs.Characters.{is_word, is_mark, goes_on_line}
 use Rattle.avr_text.specs.Numbers.{number_of}
-use Rattle.avr_text.specs.Pieces.{number_piece, word_piece, other_piece, piece_at}
+use Rattle.avr_text.specs.Pieces.{number_piece, word_piece, piece_at}
 use Rattle.avr_text.specs.Tokens.{Cut, with_first, line_after, cut_from, tokens_of, text_of, GivesTokens}
 use Rattle.avr_text.specs.Spans.{Each, Stops, IsGap, gap_none, gap_blank, gap_return, gap_comment, IsWord, IsSpelling, line_of, SpelledTo}
 use Rattle.avr_text.specs.Spans.{IsSpelled}
@@ -27,26 +26,17 @@ use Rattle.avr_text.proofs.SpansFound.{past_bytes, line_past}
 while_exact : (test : ℕ → Bool) (front after : List ℕ) → Each test front → Stops test after → take_while test (front ++ after) ≡ front
 while_exact test [] [] h s = refl
 while_exact test [] (c ∷ cs) h s = take_while-cons test c cs ∙ ap (λ t. cond t (c ∷ take_while test cs) []) s
-while_exact test (b ∷ bs) after h s =
-    take_while-cons test b (bs ++ after) ∙ ap (λ t. cond t (b ∷ take_while test (bs ++ after)) []) h.0 ∙ ap (λ us. b ∷ us)
-    (while_exact test bs after h.1 s)
+while_exact test (b ∷ bs) after h s = cc (take_while-cons test b (bs ++ after), h.0, while_exact test bs after h.1 s)
 
 prefix_exact : (test : ℕ → Bool) (front after : List ℕ) → Each test front → Stops test after → prefix_len test (front ++ after) ≡ length
     front
 prefix_exact test [] [] h s = refl
 prefix_exact test [] (c ∷ cs) h s = ap (λ t. cond t (1 + prefix_len test cs) 0) s
-prefix_exact test (b ∷ bs) after h s =
-    ap (λ t. cond t (1 + prefix_len test (bs ++ after)) 0) h.0 ∙ (let e = prefix_exact test bs after h.1 s in
-    let f : 1 + prefix_len test (bs ++ after) ≡ suc (length bs) = omega arith in f)
+prefix_exact test (b ∷ bs) after h s = grind (arith, nat_tests, prefix_exact test bs after h.1 s)
 
 -- the pieces of a gap
 blank_piece : (b : ℕ) (us : List ℕ) → is_blank b ≡ true → piece_at (b ∷ us) ≡ piece.Gap 1
-blank_piece b us h =
-    let no : is_word b ≡ false = grind (arith, nat_tests) in
-    ap (λ t. cond t (word_piece (take_while is_word (b ∷ us))) (other_piece (b ∷ us))) no ∙ first h
-  where
-    first : is_blank b ≡ true → other_piece (b ∷ us) ≡ piece.Gap 1
-    first e = rw e refl
+blank_piece b us h = grind (arith, nat_tests)
 
 return_piece : (us rest : List ℕ) → us ≡ 10 ∷ rest → piece_at (13 ∷ us) ≡ piece.Gap 1
 return_piece us rest e = subst (λ vs. piece_at (13 ∷ vs) ≡ piece.Gap 1) (sym e) refl
@@ -57,9 +47,7 @@ comment_piece us = refl
 -- the pieces of tokens
 pub word_first : (word after : List ℕ) (p : Piece) → IsWord word after → word_piece word ≡ p → piece_at (word ++ after) ≡ p
 word_first [] after p w e = absurd (let some : 0 < 0 = w.some in omega arith)
-word_first (b ∷ bs) after p w e =
-    ap (λ t. cond t (word_piece (take_while is_word (b ∷ (bs ++ after)))) (other_piece (b ∷ (bs ++ after)))) w.letters.0
-    ∙ ap word_piece (while_exact is_word (b ∷ bs) after w.letters w.longest) ∙ e
+word_first (b ∷ bs) after p w e = grind (arith, nat_tests, while_exact is_word (b ∷ bs) after w.letters w.longest)
 
 mark_not_word : (b : ℕ) → is_mark b ≡ true → is_word b ≡ false
 mark_not_word b h = grind (arith, nat_tests)
@@ -71,32 +59,23 @@ mark_not_end : (b : ℕ) → is_mark b ≡ true → (b == 10) ≡ false
 mark_not_end b h = grind (arith, nat_tests)
 
 mark_piece : (b : ℕ) (us : List ℕ) → is_mark b ≡ true → piece_at (b ∷ us) ≡ piece.Token (Mark b) 1
-mark_piece b us h = go (mark_not_word b h) (mark_not_blank b h) (mark_not_end b h)
-  where
-    go : is_word b ≡ false → is_blank b ≡ false → (b == 10) ≡ false → piece_at (b ∷ us) ≡ piece.Token (Mark b) 1
-    go e f g = ap (λ t. cond t (word_piece (take_while is_word (b ∷ us))) (other_piece (b ∷ us))) e ∙ rw f (rw g (rw h refl))
+mark_piece b us h = grind (arith, nat_tests, mark_not_word b h, mark_not_blank b h, mark_not_end b h)
 
 piece_of : (kind : TokenKind) (word after : List ℕ) → IsSpelling kind word after → piece_at (word ++ after) ≡ piece.Token kind (length word)
 piece_of Name word after h = word_first word after (piece.Token Name (length word)) h.0
     (ap (λ d. cond d (number_piece (length word) (number_of word)) (piece.Token Name (length word))) h.1)
-piece_of (Number n) word after h =
-    word_first word after (piece.Token (Number n) (length word)) h.0
-    (ap (λ d. cond d (number_piece (length word) (number_of word)) (piece.Token Name (length word))) h.1
-    ∙ ap (number_piece (length word)) h.3 ∙ ap (λ k. piece.Token (Number k) (length word)) (sym h.4))
+piece_of (Number n) word after h = grind (arith, nat_tests, word_first word after (piece.Token (Number n) (length word)) h.0)
 piece_of (Mark b) word after h = subst (λ w. piece_at (w ++ after) ≡ piece.Token (Mark b) (length w)) (sym h.1) (mark_piece b after h.0)
 piece_of ShiftLeft word after h = subst (λ w. piece_at (w ++ after) ≡ piece.Token ShiftLeft (length w)) (sym h) refl
 piece_of ShiftRight word after h = subst (λ w. piece_at (w ++ after) ≡ piece.Token ShiftRight (length w)) (sym h) refl
 piece_of LineEnd word after h = subst (λ w. piece_at (w ++ after) ≡ piece.Token LineEnd (length w)) (sym h) refl
 
 spelled_line : (kind : TokenKind) (word after : List ℕ) (line : ℕ) → IsSpelling kind word after → line_after kind line ≡ line + ends word
-spelled_line Name word after line h = same_line line (ends word) (quiet is_word word_is_quiet word h.0.letters)
-spelled_line (Number n) word after line h = same_line line (ends word) (quiet is_word word_is_quiet word h.0.letters)
 spelled_line (Mark b) word after line h = same_line line (ends word) (ap ends h.1 ∙ quiet_byte b [] (mark_not_end b h.0) refl)
-spelled_line ShiftLeft word after line h = same_line line (ends word)
-    (ap ends h ∙ quiet_byte 60 (60 ∷ []) refl (quiet_byte 60 [] refl refl))
-spelled_line ShiftRight word after line h = same_line line (ends word)
-    (ap ends h ∙ quiet_byte 62 (62 ∷ []) refl (quiet_byte 62 [] refl refl))
+spelled_line ShiftLeft word after line h = same_line _ _ (ap ends h ∙ quiet_byte 60 (60 ∷ []) refl (quiet_byte 60 [] refl refl))
+spelled_line ShiftRight word after line h = same_line _ _ (ap ends h ∙ quiet_byte 62 (62 ∷ []) refl (quiet_byte 62 [] refl refl))
 spelled_line LineEnd word after line h = let one : ends word ≡ 1 = ap ends h in omega arith
+spelled_line other word after line h = same_line line (ends word) (quiet is_word word_is_quiet word h.0.letters)
 
 gap_quiet : (gap after : List ℕ) → IsGap gap after → ends gap ≡ 0
 gap_quiet _ after gap_none = refl
@@ -152,11 +131,10 @@ module _ (text : List ℕ) where
       → (cut_from 0 at line (drop at text) ≡ cut_from 0 end line (drop end text)) × (line ≡ line_of text end)
   gap_crossed at end line le within g is =
       let parts = drop_split text at end le in
-      let n = slice_ends at end le within in
-      let q = gap_quiet (slice_range text at end) (drop end text) g in (
-        gap_gone at line (slice_range text at end) (drop end text) g parts ∙ ap (λ m. cut_from 0 m line (drop m text)) n,
-        is ∙ same_line (line_of text at) (ends (slice_range text at end)) q
-            ∙ sym (line_past text at (slice_range text at end) (drop end text) parts) ∙ ap (line_of text) n,
+      let n = slice_ends _ _ le within in
+      let q = gap_quiet _ _ g in (
+        gap_gone _ _ _ _ g parts ∙ ap (λ m. cut_from 0 m line (drop m text)) n,
+        is ∙ same_line _ _ q ∙ sym (line_past text at (slice_range text at end) (drop end text) parts) ∙ ap (line_of text) n,
       )
 
   -- tokens and gaps up to an end are cut off, and the rest is cut from there
@@ -192,8 +170,7 @@ module _ (text : List ℕ) where
 
   pub all_cut : (ts : List Token) → IsSpelled text ts → tokens_of text ≡ Ok ts
   unfolding tokens_of
-  all_cut ts h = spelled_to (length text) (omega arith) ts 0 1 refl h ∙ whole ts text (length text) (line_of text (length text))
-      (omega arith)
+  all_cut ts h = spelled_to _ (omega arith) _ _ _ refl h ∙ whole _ _ _ _ (omega arith)
 
 -- no other tokens are given
 pub given_only : (text : List ℕ) (r : Result (Vec Token Global) LexError) → GivesTokens r (tokens_of text) → (ts : List Token)

@@ -1,16 +1,15 @@
 -- A map from names as a finite map.
-use Rattle.std.proofs.Common.{◌≡◌, ℕ, Bool, true, false, cond, List, [], ◌∷◌, Vec, Global, refl, sym, ◌∙◌, ap, subst}
+use Rattle.std.proofs.Common.{◌≡◌, ℕ, Bool, true, false, cond, List, [], ◌∷◌, Vec, Global, refl, sym, ◌∙◌, ap, subst, arith, Ordering}
 use Rattle.std.specs.Prelude.{ℤ, Option, None, Some, is_some, is_none, not}
-use Rattle.std.specs.declared.cmp.Ordering.{Ordering}
 use Rattle.std.specs.declared.cmp.Ordering.TheVariants.{Less, Equal, Greater}
-use Rattle.std.specs.Ordering.{nat_cmp, eq_by_cmp}
+use Rattle.std.specs.Ordering.{nat_cmp, eq_by_cmp, match_ordering, is_eq}
 use Rattle.std.specs.Cmp.Lexicographic.{slice_cmp, nat_list_cmp_total}
 use Rattle.std.specs.BTreeMap.{insert_entry, is_at}
-use Rattle.std.specs.Ordering.{match_ordering, is_eq}
 use Rattle.std.specs.Map.{lookup}
 use Rattle.std.specs.FinMap.{find, get, insert, from_entries, get-insert, get-from_entries, same_map}
 use Rattle.std.proofs.lemmas.Map.Lookups.{exact_bytes}
 use Rattle.avr_text.specs.Names.{named}
+use Rattle.std.proofs.lemmas.Bool.Decides.{nat_tests}
 
 -- keys are compared by their bytes
 abbrev pub by_bytes : Vec ℕ Global → Vec ℕ Global → Ordering
@@ -37,9 +36,8 @@ pub lacks_name : (es : List (Vec ℕ Global × ℤ)) (q : List ℕ) (b : Bool)
 lacks_name es q b e = not_there (get (from_entries {R = slice_cmp nat_cmp} (named es)) q) ∙ ap not (ap is_some (get_name es q) ∙ sym e)
 
 equal_of : (o : Ordering) → is_eq o ≡ true → o ≡ Equal
-equal_of Less e = absurd cc
 equal_of Equal e = refl
-equal_of Greater e = absurd cc
+equal_of other e = absurd cc
 
 same_name : (x y : List ℕ) → eq_by_cmp (slice_cmp nat_cmp) x y ≡ true → x ≡ y
 same_name x y e = exact_bytes x y (equal_of (slice_cmp nat_cmp x y) e)
@@ -51,18 +49,12 @@ twice false v x rest = refl
 swapped : (a b : Bool) (v x : ℤ) (rest : Option ℤ) → (a ≡ true → b ≡ true → ⊥) → cond a (Some x) (cond b (Some v) rest) ≡ cond b (Some v)
     (cond a (Some x) rest)
 swapped true true v x rest apart = absurd (apart refl refl)
-swapped true false v x rest apart = refl
-swapped false true v x rest apart = refl
-swapped false false v x rest apart = refl
+swapped other further v x rest apart = refl
 
 -- no name is both of two that aren't equal
 apart : (q k n : List ℕ) → slice_cmp nat_cmp k n ≡ Greater → eq_by_cmp (slice_cmp nat_cmp) q n ≡ true → eq_by_cmp (slice_cmp nat_cmp) q
     k ≡ true → ⊥
-apart q k n above at_n at_k =
-    let ties : slice_cmp nat_cmp q n ≡ Equal = equal_of (slice_cmp nat_cmp q n) at_n in
-    let same : slice_cmp nat_cmp k n ≡ Equal = subst (λ x. slice_cmp nat_cmp x n ≡ Equal) (same_name q k at_k) ties in
-    let no : Greater ≡ Equal = sym above ∙ same in
-    cc
+apart q k n above at_n at_k = grind (arith, nat_tests, equal_of, same_name q k at_k)
 
 -- an entry goes to its place in the order
 inserted : (es : List (Vec ℕ Global × ℤ)) (k : Vec ℕ Global) (v : ℤ) (q : List ℕ) → find (slice_cmp nat_cmp) q
@@ -78,8 +70,7 @@ inserted (e ∷ es) k v q =
           (eq_by_cmp (slice_cmp nat_cmp) q n) (Some v) (cond (eq_by_cmp (slice_cmp nat_cmp) q e.0.items) (Some e.1)
           (find (slice_cmp nat_cmp) q (named es)))) (sym (exact_bytes k.items e.0.items o))
           (twice (eq_by_cmp (slice_cmp nat_cmp) q e.0.items) v e.1 (find (slice_cmp nat_cmp) q (named es)))
-      | Greater ↦ λ o. ap (cond (eq_by_cmp (slice_cmp nat_cmp) q e.0.items) (Some e.1)) (inserted es k v q)
-          ∙ swapped (eq_by_cmp (slice_cmp nat_cmp) q e.0.items) (eq_by_cmp (slice_cmp nat_cmp) q k.items) v e.1
+      | Greater ↦ λ o. ap (cond (eq_by_cmp (slice_cmp nat_cmp) q e.0.items) (Some e.1)) (inserted es k v q) ∙ swapped _ _ v e.1
           (find (slice_cmp nat_cmp) q (named es)) (apart q k.items e.0.items o)
     ] refl
 

@@ -1,13 +1,12 @@
 -- Tokens spell at most one tree: a machine that keeps trees gives each that they spell.
 use Rattle.std.proofs.Common.{◌≡◌, ℕ, suc, ◌<◌, ◌≤◌, true, cond, List, [], ◌∷◌, ◌++◌, refl, sym, ◌∙◌, ap, subst, append_assoc, append-nil}
-use Rattle.std.proofs.Common.{arith}
+use Rattle.std.proofs.Common.{arith, ℤ, Option, None, Some, nat_le, ◌==◌}
 use Rattle.std.proofs.lemmas.Bool.Decides.{nat_tests}
-use Rattle.std.specs.Prelude.{ℤ, Option, None, Some, nat_le, ◌==◌}
 use Rattle.avr_text.specs.declared.operators.Binary.{Binary}
 use Rattle.avr_text.specs.declared.operators.Bracket.{Bracket}
 use Rattle.avr_text.specs.declared.operators.Bracket.TheVariants.{Plain}
 use Rattle.avr_text.specs.declared.tokens.TokenKind.{TokenKind}
-use Rattle.avr_text.specs.declared.tokens.TokenKind.TheVariants.{Name, Number, Mark, ShiftLeft, ShiftRight, LineEnd}
+use Rattle.avr_text.specs.declared.tokens.TokenKind.TheVariants.{Name, Number, Mark}
 use Rattle.avr_text.specs.declared.tokens.Token.{Token}
 use Rattle.avr_text.specs.Operators.{level_of, binary_of, is_sign}
 use Rattle.avr_text.specs.Words.{bracket_word}
@@ -56,15 +55,12 @@ Under level (held_wait left op ∷ hs) = level_of op < level
 Under level (held_open bracket signs ∷ hs) = Unit {0}
 
 under_more : (level more : ℕ) (hs : List Held) → level ≤ more → Under level hs → Under more hs
-under_more level more [] h k = tt
 under_more level more (held_wait left op ∷ hs) h k = omega arith
-under_more level more (held_open bracket signs ∷ hs) h k = tt
+under_more level more other h k = tt
 
 stays : (k : ℕ) (x : Tree) (hs : List Held) → Under k hs → turned k x hs ≡ (x, hs)
-stays k x [] h = refl
-stays k x (held_wait left op ∷ hs) h = ap (λ b. cond b (turned k (binary_tree op left x) hs) (x, held_wait left op ∷ hs))
-    (not_le k (level_of op) h)
-stays k x (held_open bracket signs ∷ hs) h = refl
+stays k x (held_wait left op ∷ hs) h = cc (not_le k (level_of op) h)
+stays k x other h = refl
 
 abbrev begins_name : List ℕ → Option Bracket → Begins
 begins_name word None = begins_tree (name_tree word)
@@ -82,12 +78,8 @@ begins_of word (Mark b) dot = cond (b == 40) begins_open
 begins_of word other dot = begins_nothing
 
 sign_begins : (word : List ℕ) (kind : TokenKind) (dot : Option ℤ) → is_sign kind ≡ true → begins_of word kind dot ≡ begins_sign
-sign_begins word Name dot h = absurd cc
-sign_begins word (Number n) dot h = absurd cc
 sign_begins word (Mark b) dot h = grind (arith, nat_tests)
-sign_begins word ShiftLeft dot h = absurd cc
-sign_begins word ShiftRight dot h = absurd cc
-sign_begins word LineEnd dot h = absurd cc
+sign_begins word other dot h = absurd cc
 
 abbrev begun : Begins → List Token → Token → List Held → List Held × Place
 begun (begins_tree x) signs t hs = (hs, place_operator (with_signs signs x))
@@ -178,11 +170,7 @@ module _ (text : List ℕ) (dot : Option ℤ) where
   operated : (t : Token) (rest : List Token) (hs held : List Held) (op : Binary) (v x : Tree) → binary_of t.kind ≡ Some op
       → turned (level_of op) v held ≡ (x, hs)
       → runs (t ∷ rest) (held, place_operator v) ≡ runs rest (held_wait x op ∷ hs, place_operand [])
-  operated t rest hs held op v x e r =
-      ap (λ b. runs rest (cond b (shut (turned 0 v held).0 (turned 0 v held).1) (joined (binary_of t.kind) v held)))
-      (not_closing t.kind op e)
-      ∙ ap (λ o. runs rest (joined o v held)) e
-      ∙ ap (λ (p : Tree × List Held). runs rest (held_wait p.0 op ∷ p.1, place_operand [])) r
+  operated t rest hs held op v x e r = cc (not_closing t.kind op e)
 
   paired : (level : ℕ) (left right rest : List Token) (t : Token) (op : Binary) (hs : List Held) (x y : Tree) → binary_of t.kind ≡ Some op
       → level ≤ level_of op → Under (level_of op) hs
@@ -193,10 +181,9 @@ module _ (text : List ℕ) (dot : Option ℤ) where
     held = h.held;
     goes =
         ap (λ us. runs us (hs, place_operand [])) (append_assoc left (t ∷ right) rest) ∙ g.goes
-        ∙ operated t (right ++ rest) hs g.held op g.value x is (g.turns (level_of op) (omega arith) ∙ stays (level_of op) x hs under)
-        ∙ h.goes;
+        ∙ operated t (right ++ rest) _ g.held _ g.value _ is (g.turns (level_of op) (omega arith) ∙ stays _ _ _ under) ∙ h.goes;
     turns = λ k le. h.turns k (omega arith) ∙ ap (λ b. cond b (turned k (binary_tree op x y) hs) (y, held_wait x op ∷ hs))
-        (is_le k (level_of op) (omega arith));
+        (is_le _ _ (omega arith));
   }
 
   gives : (depth level : ℕ) (ts : List Token) (x : Tree) (rest : List Token) (hs : List Held) (signs : List Token) → Spells text dot depth
@@ -227,10 +214,7 @@ module _ (text : List ℕ) (dot : Option ℤ) where
 
   -- the tree that tokens spell
   tree_is : (tokens : List Token) (x : Tree) → Spells text dot 0 1 tokens x → ended (runs tokens ([], place_operand [])) ≡ x
-  tree_is tokens x d =
-      let g = gives 0 1 tokens x [] [] [] d (omega arith) (λ h. refl) tt in
-      ap (λ us. ended (runs us ([], place_operand []))) (sym (append-nil tokens)) ∙ ap ended g.goes ∙ ap (λ (p : Tree × List Held). p.0)
-      (g.turns 0 (omega arith))
+  tree_is tokens x d = grind (arith, nat_tests, gives 0 1 tokens x [] [] [] d (omega arith), append-nil tokens)
 
 -- at most one
 pub one_tree : (text : List ℕ) (tokens : List Token) (dot : Option ℤ) (x y : Tree) → Spells text dot 0 1 tokens x → Spells text dot 0 1

@@ -1,8 +1,8 @@
 -- Where the machine refuses no token and nothing waits at the end, the tokens spell a tree.
+use Rattle.avr_text.specs.Reading.{operand_of}
 use Rattle.std.proofs.Common.{◌≡◌, ◌⊎◌, inl, inr, ℕ, suc, ◌+◌, ◌-◌, ◌<◌, ◌≤◌, Bool, true, false, cond, List, [], ◌∷◌, ◌++◌, length, refl}
-use Rattle.std.proofs.Common.{sym, ◌∙◌, ap, subst, append_assoc, append-nil, add-one, arith}
+use Rattle.std.proofs.Common.{sym, ◌∙◌, ap, subst, append_assoc, append-nil, add-one, arith, ℤ, Option, None, Some, Err, nat_le, ◌||◌, ◌==◌}
 use Rattle.std.proofs.lemmas.Bool.Decides.{nat_tests}
-use Rattle.std.specs.Prelude.{ℤ, Option, None, Some, Err, nat_le, ◌||◌, ◌==◌}
 use Rattle.std.specs.FinMap as map
 use Rattle.avr_text.specs.declared.operators.Binary.{Binary}
 use Rattle.avr_text.specs.declared.operators.Bracket.{Bracket}
@@ -16,7 +16,7 @@ use Rattle.avr_text.specs.declared.reader.Mode.{Mode}
 use Rattle.avr_text.specs.declared.reader.Mode.TheVariants as mode
 use Rattle.avr_text.specs.declared.reader.Reader.{Reader}
 use Rattle.avr_text.specs.declared.tokens.TokenKind.{TokenKind}
-use Rattle.avr_text.specs.declared.tokens.TokenKind.TheVariants.{Name, Number, Mark, ShiftLeft, ShiftRight, LineEnd}
+use Rattle.avr_text.specs.declared.tokens.TokenKind.TheVariants.{Name, Number, Mark}
 use Rattle.avr_text.specs.declared.tokens.Token.{Token}
 use Rattle.avr_text.specs.declared.values.ValueWhy.TheVariants.{Form}
 use Rattle.avr_text.specs.Arithmetic.{ValueOrWhy}
@@ -24,9 +24,9 @@ use Rattle.avr_text.specs.Names.{NameMap, known}
 use Rattle.avr_text.specs.Operators.{level_of, combined, binary_of, is_sign}
 use Rattle.avr_text.specs.Tokens.{text_of}
 use Rattle.avr_text.specs.Words.{bracket_word}
-use Rattle.avr_text.specs.Reading.{reduced, word_or_value, dot_operand, kind_operand, operand_of, in_mode, beginning, opened, closed_at}
-use Rattle.avr_text.specs.Reading.{closed, operand_step, waits, is_mark_of, operator_or_none, operator_step, bracket_step, step_in, step}
-use Rattle.avr_text.specs.Reading.{run, emptied, finished_in, value_of}
+use Rattle.avr_text.specs.Reading.{reduced, word_or_value, dot_operand, kind_operand, in_mode, beginning, opened, closed_at, closed}
+use Rattle.avr_text.specs.Reading.{operand_step, waits, is_mark_of, operator_or_none, operator_step, bracket_step, step_in, step, run}
+use Rattle.avr_text.specs.Reading.{emptied, finished_in, value_of}
 use Rattle.avr_text.specs.Expressions.{Tree, number_tree, name_tree, dot_tree, sign_tree, bracket_tree, binary_tree, Opens, opens_plain}
 use Rattle.avr_text.specs.Expressions.{opens_word, Spells, spells_number, spells_name, spells_dot, spells_sign, spells_bracket}
 use Rattle.avr_text.specs.Expressions.{spells_binary}
@@ -138,9 +138,8 @@ module _ (text : List ℕ) (dot : Option ℤ) where
       })
 
   below_seven : (stack : List Entry) → Below 7 stack
-  below_seven [] = tt
   below_seven (Waiting value op ∷ entries) = let m = level_most op in omega arith
-  below_seven (Open bracket from at ∷ entries) = tt
+  below_seven other = tt
 
   record AtOperand (depth : ℕ) (stack : List Entry) (read : List Token) : Type 0 where
     pub front : List Token
@@ -209,9 +208,7 @@ module _ (text : List ℕ) (dot : Option ℤ) where
   says_kind t Name symbols e = says_name t (known (map.get symbols (text_of text t))) (bracket_word (text_of text t)) e refl
   says_kind t (Number n) symbols e = (number_tree n, λ depth. spells_number e)
   says_kind t (Mark b) symbols e = says_mark t b (b == 40) (b == 46) (is_sign (Mark b)) e refl refl refl
-  says_kind t ShiftLeft symbols e = tt
-  says_kind t ShiftRight symbols e = tt
-  says_kind t LineEnd symbols e = tt
+  says_kind t other symbols e = tt
 
   -- a step keeps it
   choose_holds : (b : Bool) (s u : Reader) (read : List Token) → (b ≡ true → Holds s read) → (b ≡ false → Holds u read) → Holds (cond b s u)
@@ -226,10 +223,8 @@ module _ (text : List ℕ) (dot : Option ℤ) where
       → (s.depth < 32 → AtOperand (suc s.depth) (Open bracket from at ∷ s.stack) read) → Holds (opened bracket from at next s) read
   opened_holds bracket from at next s read f =
       choose_holds (nat_le 32 s.depth || length s.stack == 256) (in_mode mode.Refused s)
-      (record { stack = Open bracket from at ∷ s.stack; depth = s.depth + 1; mode = mode.Operand next }) read
-      (λ e. tt)
-      (λ e. subst (λ n. AtOperand n (Open bracket from at ∷ s.stack) read) (sym (add-one s.depth))
-      (f (shallow_of s.depth (length s.stack) e)))
+      (record { stack = Open bracket from at ∷ s.stack; depth = s.depth + 1; mode = mode.Operand next }) read (λ e. tt)
+      (λ e. subst (λ n. AtOperand n (Open bracket from at ∷ s.stack) read) (sym (add-one s.depth)) (f (shallow_of _ (length s.stack) e)))
 
   operand_holds : (o : Operand) (tokens : List Token) (from at : ℕ) (t : Token) (s : Reader) (read : List Token) → Says o t
       → AtOperand s.depth s.stack read → Holds (operand_step o tokens from at s) (read ++ t ∷ [])
@@ -274,26 +269,20 @@ module _ (text : List ℕ) (dot : Option ℤ) where
 
   is_mark : (b : ℕ) (kind : TokenKind) → is_mark_of b kind ≡ true → kind ≡ Mark b
   is_mark b (Mark c) e = ap Mark (same_number c b e)
-  is_mark b Name e = absurd cc
-  is_mark b (Number n) e = absurd cc
-  is_mark b ShiftLeft e = absurd cc
-  is_mark b ShiftRight e = absurd cc
-  is_mark b LineEnd e = absurd cc
+  is_mark b other e = absurd cc
 
   parenthesis_holds : (bracket : Bracket) (from at next : ℕ) (t : Token) (s : Reader) (read : List Token) → AtParenthesis bracket s.depth
       s.stack read → Holds (bracket_step t.kind bracket from at next s) (read ++ t ∷ [])
   parenthesis_holds bracket from at next t s read k =
-      choose_holds (is_mark_of 40 t.kind) (opened bracket from at next s) (in_mode mode.Refused s) (read ++ t ∷ [])
-      (λ e. opened_holds bracket from at next s (read ++ t ∷ []) (λ shallow. record {
+      choose_holds _ _ _ _ (λ e. opened_holds _ _ _ _ s _ (λ shallow. record {
         front = k.front ++ (k.signs ++ k.word ∷ t ∷ []);
         signs = [];
-        left = left_open k.signs k.left k.are shallow (opens_word k.named k.is (is_mark 40 t.kind e));
+        left = left_open k.signs k.left k.are shallow (opens_word k.named k.is (is_mark _ _ e));
         are = tt;
         joined = append-nil (k.front ++ (k.signs ++ k.word ∷ t ∷ []))
             ∙ (let j : k.front ++ (k.signs ++ k.word ∷ t ∷ []) ≡ (k.front ++ (k.signs ++ k.word ∷ [])) ++ t ∷ [] = simp append_assoc in j)
             ∙ ap (λ u. u ++ t ∷ []) k.joined;
-      }))
-      (λ e. tt)
+      })) (λ e. tt)
 
   close_holds : (bracket : Bracket) (from at depth : ℕ) (entries : List Entry) (front ts : List Token) (x : Tree) (t : Token)
       → t.kind ≡ Mark 41 → Spells text dot depth 0 ts x → Left depth (Open bracket from at ∷ entries) front → AtOperator (depth - 1) entries
@@ -310,11 +299,9 @@ module _ (text : List ℕ) (dot : Option ℤ) where
   closed_at_holds : (tokens : List Token) (v : ValueOrWhy) (entries : List Entry) (t : Token) (s : Reader) (read : List Token)
       → t.kind ≡ Mark
       41 → Reduced s.depth 0 entries read → Holds (closed_at tokens v entries s) (read ++ t ∷ [])
-  closed_at_holds tokens v [] t s read e r = tt
-  closed_at_holds tokens v (Waiting w op ∷ entries) t s read e r = tt
   closed_at_holds tokens v (Open bracket from at ∷ entries) t s read e r =
-      subst (λ u. AtOperator (s.depth - 1) entries (u ++ t ∷ [])) r.joined (close_holds bracket from at s.depth entries r.front r.ts r.x t e
-      r.spelled r.left)
+      grind (arith, nat_tests, close_holds bracket from at s.depth entries r.front r.ts r.x t e r.spelled r.left)
+  closed_at_holds tokens v other t s read e r = tt
 
   waits_holds : (op : Binary) (p : ValueOrWhy × List Entry) (next : ℕ) (t : Token) (s : Reader) (read : List Token)
       → binary_of t.kind ≡ Some
@@ -348,9 +335,8 @@ module _ (text : List ℕ) (dot : Option ℤ) where
       s.stack read → Holds (operator_step t.kind tokens at v s) (read ++ t ∷ [])
   operator_step_holds tokens at v t s read q =
       choose_holds (is_mark_of 41 t.kind) (closed tokens v s) (operator_or_none (binary_of t.kind) v (at + 1) s) (read ++ t ∷ [])
-      (λ e. closed_at_holds tokens (reduced 0 v s.stack).0 (reduced 0 v s.stack).1 t s read (is_mark 41 t.kind e)
-      (turned 0 v s.depth s.stack read (omega arith) q))
-      (λ e. operator_holds (binary_of t.kind) v (at + 1) t s read refl q)
+      (λ e. closed_at_holds tokens (reduced 0 v s.stack).0 _ t s _ (is_mark _ t.kind e) (turned _ v _ _ _ (omega arith) q))
+      (λ e. operator_holds _ v (at + 1) t s _ refl q)
 
   step_holds : (m : Mode) (tokens : List Token) (symbols : NameMap) (at : ℕ) (t : Token) (s : Reader) (read : List Token) → Fits m s.depth
       s.stack read → s.mode ≡ m → Holds (step_in m text tokens symbols dot at t s) (read ++ t ∷ [])
@@ -365,8 +351,7 @@ module _ (text : List ℕ) (dot : Option ℤ) where
   run_holds tokens symbols at [] s read h = subst (λ r. Holds s r) (sym (append-nil read)) h
   run_holds tokens symbols at (t ∷ ts) s read h =
       subst (λ r. Holds (run text tokens symbols dot (at + 1) ts (step text tokens symbols dot at t s)) r) (append_assoc read (t ∷ []) ts)
-      (run_holds tokens symbols (at + 1) ts (step text tokens symbols dot at t s) (read ++ t ∷ [])
-      (step_holds s.mode tokens symbols at t s read h refl))
+      (run_holds tokens symbols (at + 1) ts (step text tokens symbols dot at t s) (read ++ t ∷ []) (step_holds _ _ _ _ _ _ _ h refl))
 
   not_empty : (n : ℕ) → (suc n == 0) ≡ false
   not_empty n = grind (arith, nat_tests)

@@ -1,15 +1,14 @@
 -- The machine that reads an expression gives the meaning of each tree that the tokens spell.
-use Rattle.std.proofs.Common.{◌≡◌, ℕ, suc, ◌+◌, ◌-◌, ◌*◌, ◌<◌, ◌≤◌, Bool, true, false, cond, List, [], ◌∷◌, ◌++◌, length, get_or, take}
-use Rattle.std.proofs.Common.{drop, refl, sym, ◌∙◌, ap, subst, append_assoc, append-nil, drop-cons, drop-drop, add-one, length-append}
-use Rattle.std.proofs.Common.{arith}
+use Rattle.std.proofs.Common.{◌≡◌, ℕ, suc, ◌+◌, ◌-◌, ◌*◌, ◌<◌, ◌≤◌, true, false, cond, List, [], ◌∷◌, ◌++◌, length, get_or, take, drop}
+use Rattle.std.proofs.Common.{refl, sym, ◌∙◌, ap, append_assoc, append-nil, drop-cons, drop-drop, add-one, length-append, arith}
 use Rattle.std.proofs.Math.Seq.{drop-append_seam}
 use Rattle.std.proofs.lemmas.List.{length-drop}
 use Rattle.std.proofs.lemmas.Bool.Decides.{nat_tests}
-use Rattle.std.specs.Prelude.{ℤ, Option, None, Some, nat_le, ◌||◌, ◌==◌}
+use Rattle.std.specs.Prelude.{ℤ, Option, Some, nat_le, ◌||◌, ◌==◌}
 use Rattle.std.specs.List.{slice_range}
 use Rattle.std.specs.FinMap as map
 use Rattle.avr_text.specs.declared.operators.Binary.{Binary}
-use Rattle.avr_text.specs.declared.operators.Binary.TheVariants.{Or, Xor, And, Add, Subtract, Multiply, Divide, Remainder}
+use Rattle.avr_text.specs.declared.operators.Binary.TheVariants.{Or}
 use Rattle.avr_text.specs.declared.operators.Binary.TheVariants as binary
 use Rattle.avr_text.specs.declared.operators.Bracket.{Bracket}
 use Rattle.avr_text.specs.declared.operators.Bracket.TheVariants.{Plain}
@@ -20,15 +19,14 @@ use Rattle.avr_text.specs.declared.reader.Mode.{Mode}
 use Rattle.avr_text.specs.declared.reader.Mode.TheVariants as mode
 use Rattle.avr_text.specs.declared.reader.Reader.{Reader}
 use Rattle.avr_text.specs.declared.tokens.TokenKind.{TokenKind}
-use Rattle.avr_text.specs.declared.tokens.TokenKind.TheVariants.{Name, Number, Mark, ShiftLeft, ShiftRight, LineEnd}
+use Rattle.avr_text.specs.declared.tokens.TokenKind.TheVariants.{Mark}
 use Rattle.avr_text.specs.declared.tokens.Token.{Token}
 use Rattle.avr_text.specs.Arithmetic.{ValueOrWhy}
 use Rattle.avr_text.specs.Names.{NameMap, known}
 use Rattle.avr_text.specs.Operators.{level_of, combined, binary_mark, binary_of, is_sign, bracket_applied}
 use Rattle.avr_text.specs.Tokens.{text_of}
-use Rattle.avr_text.specs.Reading.{signed, reduced, word_or_value, dot_operand, kind_operand, operand_of, beginning, opened, closed_at}
-use Rattle.avr_text.specs.Reading.{closed, operand_step, waits, is_mark_of, operator_or_none, operator_step, bracket_step, run, emptied}
-use Rattle.avr_text.specs.Reading.{finished, value_of}
+use Rattle.avr_text.specs.Reading.{signed, reduced, word_or_value, dot_operand, kind_operand, operand_of, beginning, opened, closed}
+use Rattle.avr_text.specs.Reading.{operand_step, waits, is_mark_of, operator_or_none, bracket_step, run, emptied, finished, value_of}
 use Rattle.avr_text.specs.Expressions.{Tree, number_tree, name_tree, dot_tree, sign_tree, bracket_tree, binary_tree, Opens, opens_plain}
 use Rattle.avr_text.specs.Expressions.{opens_word, Spells, spells_number, spells_name, spells_dot, spells_sign, spells_bracket}
 use Rattle.avr_text.specs.Expressions.{spells_binary, dot_value, meaning}
@@ -41,9 +39,8 @@ Below level (Waiting value operator ∷ entries) = level_of operator < level
 Below level (Open bracket from at ∷ entries) = Unit {0}
 
 pub below_more : (level more : ℕ) (entries : List Entry) → level ≤ more → Below level entries → Below more entries
-below_more level more [] h k = tt
 below_more level more (Waiting value operator ∷ entries) h k = omega arith
-below_more level more (Open bracket from at ∷ entries) h k = tt
+below_more level more other h k = tt
 
 pub not_le : (k n : ℕ) → n < k → nat_le k n ≡ false
 not_le k n h = grind (arith, nat_tests)
@@ -52,34 +49,16 @@ pub is_le : (k n : ℕ) → k ≤ n → nat_le k n ≡ true
 is_le k n h = grind (arith, nat_tests)
 
 pub stays_put : (k : ℕ) (v : ValueOrWhy) (entries : List Entry) → Below k entries → reduced k v entries ≡ (v, entries)
-stays_put k v [] h = refl
-stays_put k v (Waiting value operator ∷ entries) h = ap (λ b. cond b (reduced k (combined operator value v) entries)
-    (v, Waiting value operator ∷ entries)) (not_le k (level_of operator) h)
-stays_put k v (Open bracket from at ∷ entries) h = refl
+stays_put k v (Waiting value operator ∷ entries) h = cc (not_le k (level_of operator) h)
+stays_put k v other h = refl
 
 pub level_least : (op : Binary) → 1 ≤ level_of op
 level_least Or = omega arith
-level_least Xor = omega arith
-level_least And = omega arith
-level_least binary.ShiftLeft = omega arith
-level_least binary.ShiftRight = omega arith
-level_least Add = omega arith
-level_least Subtract = omega arith
-level_least Multiply = omega arith
-level_least Divide = omega arith
-level_least Remainder = omega arith
+level_least other = omega arith
 
 pub level_most : (op : Binary) → level_of op ≤ 6
 level_most Or = omega arith
-level_most Xor = omega arith
-level_most And = omega arith
-level_most binary.ShiftLeft = omega arith
-level_most binary.ShiftRight = omega arith
-level_most Add = omega arith
-level_most Subtract = omega arith
-level_most Multiply = omega arith
-level_most Divide = omega arith
-level_most Remainder = omega arith
+level_most other = omega arith
 
 -- a list from a place on
 pub head_within : (xs : List Token) (i : ℕ) (t : Token) (us : List Token) → drop i xs ≡ t ∷ us → i < length xs
@@ -100,28 +79,15 @@ none_there xs i = let e : i - i ≡ 0 = omega arith in ap (λ n. take n (drop i 
 -- the kinds of tokens
 pub sign_operand : (word : List ℕ) (kind : TokenKind) (symbols : NameMap) (dot : Option ℤ) → is_sign kind ≡ true → kind_operand word kind
     symbols dot ≡ Sign
-sign_operand word Name symbols dot h = absurd cc
-sign_operand word (Number n) symbols dot h = absurd cc
 sign_operand word (Mark b) symbols dot h = grind (arith, nat_tests)
-sign_operand word ShiftLeft symbols dot h = absurd cc
-sign_operand word ShiftRight symbols dot h = absurd cc
-sign_operand word LineEnd symbols dot h = absurd cc
+sign_operand word other symbols dot h = absurd cc
 
 mark_41 : (b : ℕ) (op : Binary) → binary_mark b ≡ Some op → (b == 41) ≡ false
-mark_41 b op h = go (b == 41) refl
-  where
-    go : (t : Bool) → (b == 41) ≡ t → (b == 41) ≡ false
-    go false e = e
-    go true e = let is : b ≡ 41 = grind (arith, nat_tests) in let no : None ≡ Some op = subst (λ n. binary_mark n ≡ Some op) is h in
-        absurd cc
+mark_41 b op h = grind (arith, nat_tests)
 
 pub not_closing : (kind : TokenKind) (op : Binary) → binary_of kind ≡ Some op → is_mark_of 41 kind ≡ false
 not_closing (Mark b) op h = mark_41 b op h
-not_closing Name op h = refl
-not_closing (Number n) op h = refl
-not_closing ShiftLeft op h = refl
-not_closing ShiftRight op h = refl
-not_closing LineEnd op h = refl
+not_closing other op h = refl
 
 -- before an operand, and after one
 abbrev before : List Entry → ℕ → ℕ → Reader
@@ -181,14 +147,11 @@ module _ (text : List ℕ) (tokens : List Token) (symbols : NameMap) (dot : Opti
     entries = r.entries;
     runs =
         ap (λ o. run text tokens symbols dot (at + 1) (ts ++ rest) (operand_step o tokens from at (before stack depth from)))
-        (sign_operand (text_of text t) t.kind symbols dot is)
-        ∙ r.runs ∙ (let e : at + 1 + length ts ≡ at + suc (length ts) = omega arith in
+        (sign_operand (text_of text t) t.kind symbols dot is) ∙ r.runs ∙ (let e : at + 1 + length ts ≡ at + suc (length ts) = omega arith in
         ap (λ n. run text tokens symbols dot n rest (after r.entries depth r.value)) e);
-    reduces = λ k h.
-        r.reduces k (omega arith)
+    reduces = λ k h. r.reduces k (omega arith)
         ∙ ap (λ v. reduced k v stack) (ap (λ n. signed (slice_range tokens from n) (meaning symbols dot x)) (add-one at)
-        ∙ sym (signed_more tokens from at t (meaning symbols dot x) order (head_within tokens at t (ts ++ rest) there)
-        (head_there tokens at t (ts ++ rest) there)));
+        ∙ sym (signed_more _ _ _ _ _ order (head_within _ _ _ _ there) (head_there tokens at _ _ there)));
   }
 
   opening_runs : (depth at from : ℕ) (us : List Token) (stack : List Entry) {opening : List Token} {bracket : Bracket} → depth < 32
@@ -216,13 +179,7 @@ module _ (text : List ℕ) (tokens : List Token) (symbols : NameMap) (dot : Opti
       → t.kind ≡ Mark 41 → reduced 0 v entries ≡ (w, Open bracket from place ∷ stack)
       → run text tokens symbols dot at (t ∷ rest) (after entries (suc depth) v) ≡ run text tokens symbols dot (at + 1) rest
       (after stack depth (signed (slice_range tokens from place) (bracket_applied bracket w)))
-  closing_runs depth at from place t rest stack entries bracket v w e r =
-      let one : suc depth - 1 ≡ depth = omega arith in
-      ap (λ kind. run text tokens symbols dot (at + 1) rest (operator_step kind tokens at v (after entries (suc depth) v))) e
-      ∙ ap (λ (p : ValueOrWhy × List Entry). run text tokens symbols dot (at + 1) rest
-      (closed_at tokens p.0 p.1 (after entries (suc depth) v))) r
-      ∙ ap (λ n. run text tokens symbols dot (at + 1) rest
-      (after stack n (signed (slice_range tokens from place) (bracket_applied bracket w)))) one
+  closing_runs depth at from place t rest stack entries bracket v w e r = grind (arith, nat_tests)
 
   operator_runs : (depth at : ℕ) (t : Token) (rest : List Token) (stack entries : List Entry) (op : Binary) (v w : ValueOrWhy)
       → binary_of t.kind ≡ Some op → length stack < 256 → reduced (level_of op) v entries ≡ (w, stack)
@@ -253,11 +210,8 @@ module _ (text : List ℕ) (tokens : List Token) (symbols : NameMap) (dot : Opti
         value = signed (slice_range tokens from at) (bracket_applied bracket (meaning symbols dot x));
         entries = stack;
         runs =
-            ap (λ us. run text tokens symbols dot at us (before stack depth from)) joins
-            ∙ opening_runs depth at from (inner ++ t ∷ rest) stack deep room opens
-            ∙ r.runs
-            ∙ closing_runs depth (at + length opening + length inner) from at t rest stack r.entries bracket r.value (meaning symbols dot x)
-            closing closes
+            ap (λ us. run text tokens symbols dot at us (before stack depth from)) joins ∙ opening_runs _ _ _ _ _ deep room opens ∙ r.runs
+            ∙ closing_runs depth (at + length opening + length inner) _ _ t rest _ r.entries _ r.value _ closing closes
             ∙ ap (λ n. run text tokens symbols dot n rest
             (after stack depth (signed (slice_range tokens from at) (bracket_applied bracket (meaning symbols dot x))))) places;
         reduces = λ k h. refl;
@@ -273,22 +227,19 @@ module _ (text : List ℕ) (tokens : List Token) (symbols : NameMap) (dot : Opti
       let places : at + length left + 1 + length right ≡ at + length (left ++ t ∷ right) = omega (arith, length-append left (t ∷ right)) in
       let turns : reduced (level_of op) l.value l.entries ≡ (meaning symbols dot x, stack) =
       l.reduces (level_of op) (omega arith) ∙ ap (λ g. reduced (level_of op) (signed g (meaning symbols dot x)) stack) plain
-      ∙ stays_put (level_of op) (meaning symbols dot x) stack below in
+      ∙ stays_put _ _ _ below in
       record {
         value = r.value;
         entries = r.entries;
         runs =
-            ap (λ us. run text tokens symbols dot at us (before stack depth from)) (append_assoc left (t ∷ right) rest)
-            ∙ l.runs
-            ∙ operator_runs depth (at + length left) t (right ++ rest) stack l.entries op l.value (meaning symbols dot x) is room turns
-            ∙ r.runs
+            ap (λ us. run text tokens symbols dot at us (before stack depth from)) (append_assoc left (t ∷ right) rest) ∙ l.runs
+            ∙ operator_runs depth (at + length left) t (right ++ rest) _ l.entries _ l.value _ is room turns ∙ r.runs
             ∙ ap (λ n. run text tokens symbols dot n rest (after r.entries depth r.value)) places;
-        reduces = λ k h.
-            r.reduces k (omega arith)
+        reduces = λ k h. r.reduces k (omega arith)
             ∙ ap (λ g. reduced k (signed g (meaning symbols dot y)) (Waiting (meaning symbols dot x) op ∷ stack))
             (none_there tokens (at + length left + 1))
             ∙ ap (λ b. cond b (reduced k (combined op (meaning symbols dot x) (meaning symbols dot y)) stack)
-            (meaning symbols dot y, Waiting (meaning symbols dot x) op ∷ stack)) (is_le k (level_of op) (omega arith))
+            (meaning symbols dot y, Waiting (meaning symbols dot x) op ∷ stack)) (is_le _ _ (omega arith))
             ∙ ap (λ g. reduced k (signed g (combined op (meaning symbols dot x) (meaning symbols dot y))) stack) (sym plain);
       }
 

@@ -1,13 +1,11 @@
 -- The row of a name has as many words as the name says, whatever its operands.
-use Rattle.std.proofs.Common.{◌≡◌, ℕ, Bool, true, false, List, [], ◌∷◌, refl, sym, subst}
-use Rattle.std.specs.Prelude.{ℤ, pos, Option, Some, None, Ok, Err, IfOk}
+use Rattle.std.proofs.Common.{◌≡◌, ℕ, Bool, true, false, List, [], ◌∷◌, refl, sym, subst, ℤ, pos, Option, Some, None, Ok, Err, IfOk}
 use Rattle.avr_table.specs.declared.Instr.{Instr}
 use Rattle.avr_table.specs.declared.Instr.TheVariants as i
 use Rattle.avr_table.specs.Rows.{words_of as row_words}
 use Rattle.avr_text.specs.declared.tokens.Token.{Token}
 use Rattle.avr_text.specs.declared.instructions.OperandForms.{OperandForms}
-use Rattle.avr_text.specs.declared.instructions.OperandForms.TheVariants.{Zero, One, Two, Load, Store, LoadDisplaced, StoreDisplaced}
-use Rattle.avr_text.specs.declared.instructions.OperandForms.TheVariants.{ProgramMemory}
+use Rattle.avr_text.specs.declared.instructions.OperandForms.TheVariants.{Zero, One, Two}
 use Rattle.avr_text.specs.declared.mnemonics.Mnemonic.{Mnemonic}
 use Rattle.avr_text.specs.declared.mnemonics.Mnemonic.TheVariants as m
 use Rattle.avr_text.specs.declared.pointers.Pointer.{Pointer}
@@ -16,11 +14,11 @@ use Rattle.avr_text.specs.declared.pointers.Step.{Step}
 use Rattle.avr_text.specs.declared.pointers.Step.TheVariants.{Plain, Increment, Decrement}
 use Rattle.avr_text.specs.Faults.{OrFault}
 use Rattle.avr_text.specs.Fields.{field}
-use Rattle.avr_text.specs.Instructions.{none_of, mapped, load, store, at_address, loaded, stored, displaced, displaced_of}
-use Rattle.avr_text.specs.Instructions.{loaded_displaced, stored_displaced, program_row, from_program, loaded_from_program}
-use Rattle.avr_text.specs.Instructions.{program_memory, forms_of, row_of, by_forms, instruction_of}
+use Rattle.avr_text.specs.Instructions.{none_of, mapped, load, store, at_address, loaded, stored, displaced, displaced_of, loaded_displaced}
+use Rattle.avr_text.specs.Instructions.{stored_displaced, program_row, from_program, loaded_from_program, program_memory, forms_of, row_of}
+use Rattle.avr_text.specs.Instructions.{by_forms, instruction_of}
 use Rattle.avr_text.specs.Mnemonics.{words_of}
-use Rattle.avr_text.specs.Operands.{Operands, both, number, register, one_value, two_values, pair_of}
+use Rattle.avr_text.specs.Operands.{Operands, register, one_value, two_values, pair_of}
 
 -- an instruction, if there is one, has n words
 abbrev pub HasWords : ℕ → OrFault Instr → Type 0
@@ -28,9 +26,6 @@ HasWords n outcome = IfOk outcome (λ i. row_words i ≡ n)
 
 pub words_of_row : (name : Mnemonic) (x y : ℤ) → row_words (row_of name x y) ≡ words_of name
 words_of_row m.Jmp x y = refl
-words_of_row m.Call x y = refl
-words_of_row m.Lds x y = refl
-words_of_row m.Sts x y = refl
 words_of_row name x y = refl
 
 words_of_load : (d : ℤ) (pointer : Pointer) (step : Step) → row_words (load d pointer step) ≡ 1
@@ -66,9 +61,8 @@ of_none instr (p ∷ ps) = tt
 
 of_address : (f : ℤ → Pointer → Step → Instr) → ((x : ℤ) (pointer : Pointer) (step : Step) → row_words (f x pointer step) ≡ 1)
     → (x : OrFault ℤ) (address : Option (Pointer × Step)) → HasWords 1 (at_address x address f)
-of_address f h (Err why) address = tt
-of_address f h (Ok x) None = tt
 of_address f h (Ok x) (Some a) = h x a.0 a.1
+of_address f h other address = tt
 
 of_loaded : (line : List ℕ) (pair : Option (List Token × List Token)) → HasWords 1 (loaded line pair)
 of_loaded line None = tt
@@ -81,8 +75,7 @@ of_stored line (Some p) = of_address store words_of_store _ _
 of_displaced : (f : ℤ → ℤ → ℤ → Instr) → ((x y q : ℤ) → row_words (f x y q) ≡ 1) → (x : OrFault ℤ) (d : Option (ℤ × List Token))
     (o : Operands) → HasWords 1 (displaced x d o f)
 of_displaced f h x None o = tt
-of_displaced f h x (Some d) o = of_mapped 1 (λ (p : ℤ × ℤ). f p.0 d.0 p.1) (λ p. h p.0 d.0 p.1)
-    (both x (number (pos 0) (pos 63) o.line o.symbols d.1))
+of_displaced f h x (Some d) o = of_mapped _ (λ (p : ℤ × ℤ). f p.0 d.0 p.1) (λ p. h p.0 d.0 p.1) _
 
 of_loaded_displaced : (o : Operands) (pair : Option (List Token × List Token)) → HasWords 1 (loaded_displaced o pair)
 of_loaded_displaced o None = tt
@@ -95,12 +88,9 @@ of_stored_displaced o (Some p) = of_displaced (λ r y q. i.Std (field 1 y) (fiel
     (displaced_of o.line p.0) o
 
 of_program_row : (d : ℤ) (address : Option (Pointer × Step)) → HasWords 1 (program_row d address)
-of_program_row d None = tt
-of_program_row d (Some (X, step)) = tt
-of_program_row d (Some (Y, step)) = tt
 of_program_row d (Some (Z, Plain)) = refl
 of_program_row d (Some (Z, Increment)) = refl
-of_program_row d (Some (Z, Decrement)) = tt
+of_program_row d other = tt
 
 of_from_program : (x : OrFault ℤ) (address : Option (Pointer × Step)) → HasWords 1 (from_program x address)
 of_from_program (Err why) address = tt
@@ -129,11 +119,7 @@ of_numbers (One form) name o h = of_mapped (words_of name) (λ x. row_of name x 
     (one_value form o o.parts)
 of_numbers (Two form other) name o h = of_mapped (words_of name) (λ (p : ℤ × ℤ). row_of name p.0 p.1) (λ p. words_of_row name p.0 p.1)
     (two_values form other o (pair_of o.parts))
-of_numbers Load name o h = absurd cc
-of_numbers Store name o h = absurd cc
-of_numbers LoadDisplaced name o h = absurd cc
-of_numbers StoreDisplaced name o h = absurd cc
-of_numbers ProgramMemory name o h = absurd cc
+of_numbers other name o h = absurd cc
 
 pub words_of_instruction : (name : Mnemonic) (o : Operands) → HasWords (words_of name) (instruction_of name o)
 unfolding instruction_of

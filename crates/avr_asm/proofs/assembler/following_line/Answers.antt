@@ -4,5 +4,4 @@ use Rattle.avr_asm.proofs.assembler.following_line.Goals as goal
 
 pub returns-else-branch : goal.returns-else-branch
 returns-else-branch c =
-    c.requires.following ∙ follow_more c.args.lines.now c.args.addresses.now c.args.i _ c.in_ok-is_instruction_line.field-0
-    c.requires.within c.requires.same c.in_ok-is_instruction_line.ensures c.if-branch.false
+    c.requires.following ∙ follow_more _ _ _ _ _ c.requires.within c.requires.same c.in_ok-is_instruction_line.ensures c.if-branch.false

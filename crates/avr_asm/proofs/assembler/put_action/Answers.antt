@@ -21,6 +21,4 @@ returns-in-Directive c =
     c.put_directive.ensures
 
 pub returns-in_default : goal.returns-in_default
-returns-in_default c =
-    no_output c.args.action c.args.line.now.text.now c.args.symbols.now c.args.line.now.number c.args.line.now.address c.args.line.now.following
-    (map (λ p. p.now) c.args.parts.now) (seen_built c.args.built.now) c.in_default.not-Instruction c.in_default.not-Directive
+returns-in_default c = no_output _ _ _ _ _ _ _ _ c.in_default.not-Instruction c.in_default.not-Directive

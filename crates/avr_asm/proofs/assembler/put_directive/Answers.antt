@@ -1,5 +1,4 @@
-use Rattle.std.proofs.Common.{List, map, refl, sym, ◌∙◌, ap, subst}
-use Rattle.std.specs.Prelude.{Ok}
+use Rattle.std.proofs.Common.{List, map, refl, sym, ◌∙◌, ap, subst, Ok}
 use Rattle.avr_text.specs.Faults.{Gives, ◌>>=◌}
 use Rattle.avr_asm.specs.declared.output.Hint.{Hint}
 use Rattle.avr_asm.specs.Assembly.{seen_built, with_data, with_directive}

@@ -13,23 +13,9 @@ pub put_action-requires-clause-lie : goal.put_action-requires-clause-lie
 put_action-requires-clause-lie c =
     subst (EachLies (length c.args.line.now.text.now)) (sym c.as_slice.ensures.value) c.in_ok-parts.ensures.lie
 
-pub put_action-requires-clause-address : goal.put_action-requires-clause-address
-put_action-requires-clause-address c = c.requires.address
-
-pub parts_of-requires : goal.parts_of-requires
-parts_of-requires c = c.arguments_of-arguments.ensures.lie
-
-pub arguments_of-arguments-requires : goal.arguments_of-arguments-requires
-arguments_of-arguments-requires c = c.body_of-body.ensures.lie
-
-pub action_of-action-requires : goal.action_of-action-requires
-action_of-action-requires c = c.body_of-body.ensures.lie
-
 pub returns : goal.returns
 returns c =
-    subst (Gives (λ x. seen_built c.put_action.new.built) c.put_action.result)
-    (line_told c.args.line.now.text.now c.args.symbols.now c.args.line.now.number c.args.line.now.address c.args.line.now.following (seen_built c.args.built.now) _ _ _ _ _ _
+    subst (Gives (λ x. seen_built c.put_action.new.built) c.put_action.result) (line_told _ _ _ _ _ _ _ _ _ _ _ _
     c.in_ok-tokens.ensures.tokens c.as_slice-tokens.ensures.value c.body_of-body.ensures.body c.action_of-action.ensures
-    c.arguments_of-arguments.ensures.arguments
-    (ap (map (λ p. p.now)) c.as_slice.ensures.value ∙ c.in_ok-parts.ensures.parts))
+    c.arguments_of-arguments.ensures.arguments (ap (map (λ p. p.now)) c.as_slice.ensures.value ∙ c.in_ok-parts.ensures.parts))
     c.put_action.ensures

@@ -1,21 +1,8 @@
-use Rattle.std.proofs.Common.{◌≡◌, ◌⊎◌, map, subst}
-use Rattle.std.specs.Prelude.{Ok, Err}
+use Rattle.std.proofs.Common.{◌≡◌, ◌⊎◌, map, subst, Ok, Err}
 use Rattle.avr_text.specs.declared.errors.AsmWhy.TheVariants.{Memory}
 use Rattle.avr_asm.specs.Assembly.{Output, output_from, seen_built}
 use Rattle.avr_asm.specs.Taken.{over}
 use Rattle.avr_asm.proofs.assembler.put_lines.Goals as goal
-
-pub put_each-requires-clause-short : goal.put_each-requires-clause-short
-put_each-requires-clause-short c = c.requires.short
-
-pub put_each-requires-clause-few : goal.put_each-requires-clause-few
-put_each-requires-clause-few c = c.requires.few
-
-pub put_each-requires-clause-same : goal.put_each-requires-clause-same
-put_each-requires-clause-same c = c.requires.same
-
-pub put_each-requires-clause-below : goal.put_each-requires-clause-below
-put_each-requires-clause-below c = c.requires.below
 
 pub returns-in-Ok-clause-built : goal.returns-in-Ok-clause-built
 returns-in-Ok-clause-built c =
@@ -31,6 +18,3 @@ returns-in-Err-clause-built c =
     subst (λ (out : Output). (c.in-Err.error.why ≡ Memory)
     ⊎ (output_from 1 c.args.symbols.now out (map (λ line. line.now) c.args.lines.now) c.args.addresses.now
     ≡ Err c.in-Err.error)) start c.in-Err.ensures.built
-
-pub returns-in-Err-clause-memory : goal.returns-in-Err-clause-memory
-returns-in-Err-clause-memory c = c.in-Err.ensures.memory

@@ -5,22 +5,15 @@ use Rattle.avr_asm.proofs.emission.data.Goals as goal
 
 pub loop-part-preserved : goal.loop-part-preserved
 loop-part-preserved c =
-    data_more c.args.wide c.args.line.now c.args.symbols.now (data_state c.loop-part.fault c.loop-part.bytes.items)
-    (data_state c.in_ok-fault.fault c.take_number.new.bytes.items) c.args.parts.now c.loop-part.part-index _ c.loop-part-test.true
+    data_more _ _ _ _ _ _ _ _ c.loop-part-test.true
     (c.in_ok-fault.ensures ∙ ap (with_number c.args.wide (data_state c.loop-part.fault c.loop-part.bytes.items))
-    c.data_number-value.ensures)
-    ∙ c.loop-part.invariant
-
-pub data_number-value-requires : goal.data_number-value-requires
-data_number-value-requires c = c.requires c.loop-part.part-index _ c.loop-part-test.true
+    c.data_number-value.ensures) ∙ c.loop-part.invariant
 
 pub returns-in-Some : goal.returns-in-Some
-returns-in-Some c = inr (sym c.loop-part.invariant
-    ∙ data_end c.args.wide c.args.line.now c.args.symbols.now _ c.args.parts.now c.loop-part.part-index c.loop-part-test.false
+returns-in-Some c = inr (sym c.loop-part.invariant ∙ data_end _ _ _ _ _ _ c.loop-part-test.false
     ∙ ap (λ fault. data_state fault c.loop-part.bytes.items) c.in-Some.is)
 
 pub returns-in-None : goal.returns-in-None
 returns-in-None c =
-    sym c.loop-part.invariant
-    ∙ data_end c.args.wide c.args.line.now c.args.symbols.now _ c.args.parts.now c.loop-part.part-index c.loop-part-test.false
+    sym c.loop-part.invariant ∙ data_end _ _ _ _ _ _ c.loop-part-test.false
     ∙ ap (λ fault. data_state fault c.loop-part.bytes.items) c.in-None.is

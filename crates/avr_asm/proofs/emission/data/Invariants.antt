@@ -1,5 +1,4 @@
-use Rattle.std.proofs.Common.{◌≡◌, [], drop, map}
-use Rattle.std.specs.Prelude.{Ok}
+use Rattle.std.proofs.Common.{◌≡◌, [], drop, map, Ok}
 use Rattle.avr_asm.specs.Emission.{data_from, data_state}
 use Rattle.avr_asm.proofs.emission.data.Given as goal
 

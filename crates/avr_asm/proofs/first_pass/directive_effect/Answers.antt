@@ -1,5 +1,4 @@
-use Rattle.std.proofs.Common.{◌≡◌, ℕ, ◌+◌, ◌*◌, ◌%◌, nat_lt, false, List, Bor, length, map, sym, ◌∙◌, ap}
-use Rattle.std.specs.Prelude.{◌==◌, Ok}
+use Rattle.std.proofs.Common.{◌≡◌, ℕ, ◌+◌, ◌*◌, ◌%◌, nat_lt, false, List, Bor, length, map, sym, ◌∙◌, ap, ◌==◌, Ok}
 use Rattle.std.proofs.lemmas.List.{length-map}
 use Rattle.avr_text.specs.declared.tokens.Token.{Token}
 use Rattle.avr_asm.specs.declared.first_pass.Effect.{Effect}
@@ -11,18 +10,6 @@ use Rattle.avr_asm.proofs.first_pass.directive_effect.Goals as goal
 counted : (parts : List (Bor (List Token))) (effect : Effect) (shape : ℕ → Effect) → effect ≡ shape (length parts)
     → effect ≡ shape (length (map (λ p. p.now) parts))
 counted parts effect shape is = is ∙ ap shape (sym (length-map parts (λ p. p.now)))
-
-pub is_start-requires : goal.is_start-requires
-is_start-requires c = c.requires.parts
-
-pub is_cell-requires : goal.is_cell-requires
-is_cell-requires c = c.requires.parts
-
-pub org_effect-requires : goal.org_effect-requires
-org_effect-requires c = c.requires.parts
-
-pub equ_effect-requires : goal.equ_effect-requires
-equ_effect-requires c = c.requires.arguments
 
 pub returns-in-Db-clause-effect : goal.returns-in-Db-clause-effect
 returns-in-Db-clause-effect c =
@@ -40,21 +27,15 @@ returns-in-Dw-clause-effect c =
 
 pub returns-in-Lines-clause-effect : goal.returns-in-Lines-clause-effect
 returns-in-Lines-clause-effect c =
-    ap Ok (counted c.args.parts.now _ (λ n. if_shaped (n == 2) Nothing) c.if_shaped-in-Lines.ensures.effect)
-    ∙ ap (λ d. directive_effect d c.args.line.now c.args.symbols.now c.args.arguments.now (map (λ p. p.now) c.args.parts.now)
-    c.args.follows) (sym c.in-Lines.is)
+    cc (counted c.args.parts.now _ (λ n. if_shaped (n == 2) Nothing) c.if_shaped-in-Lines.ensures.effect, c.in-Lines.is)
 
 pub returns-in-Half-clause-effect : goal.returns-in-Half-clause-effect
 returns-in-Half-clause-effect c =
-    ap Ok (counted c.args.parts.now _ (λ n. if_shaped (n == 2) Nothing) c.if_shaped-in-Half.ensures.effect)
-    ∙ ap (λ d. directive_effect d c.args.line.now c.args.symbols.now c.args.arguments.now (map (λ p. p.now) c.args.parts.now)
-    c.args.follows) (sym c.in-Half.is)
+    cc (counted c.args.parts.now _ (λ n. if_shaped (n == 2) Nothing) c.if_shaped-in-Half.ensures.effect, c.in-Half.is)
 
 pub returns-in-Stack-clause-effect : goal.returns-in-Stack-clause-effect
 returns-in-Stack-clause-effect c =
-    ap Ok (counted c.args.parts.now _ (λ n. if_shaped (n == 4) Nothing) c.if_shaped-in-Stack.ensures.effect)
-    ∙ ap (λ d. directive_effect d c.args.line.now c.args.symbols.now c.args.arguments.now (map (λ p. p.now) c.args.parts.now)
-    c.args.follows) (sym c.in-Stack.is)
+    cc (counted c.args.parts.now _ (λ n. if_shaped (n == 4) Nothing) c.if_shaped-in-Stack.ensures.effect, c.in-Stack.is)
 
 pub returns-in-Fact-clause-effect : goal.returns-in-Fact-clause-effect
 returns-in-Fact-clause-effect c =

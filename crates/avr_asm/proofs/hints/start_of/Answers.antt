@@ -1,5 +1,4 @@
-use Rattle.std.proofs.Common.{◌≡◌, sym, ◌∙◌, ap, arith}
-use Rattle.std.specs.Prelude.{if◌then◌else◌}
+use Rattle.std.proofs.Common.{◌≡◌, sym, ◌∙◌, ap, arith, if◌then◌else◌}
 use Rattle.uz_schedule.specs.declared.kinds.Kind.TheVariants.{Main, Alone}
 use Rattle.avr_asm.proofs.HintLemmas.{start_from, start_told, no_start}
 use Rattle.avr_asm.proofs.hints.start_of.Goals.{then-is_word, else-is_word}

@@ -10,5 +10,4 @@ returns-clause-rising c =
 pub returns-clause-order : goal.returns-clause-order
 returns-clause-order c =
     let rising = IsNonDecreasingBy-from_sort_by_key (λ l. l.address) _ c.in_ok-sort_by_key.ensures.sorted (λ a r q k. search rules) in
-    sorted_is c.args.labels.items _ rising
-    (c.in_ok-sort_by_key.ensures.stable (λ l. l.address) (answers_always _ _ _ (λ f a r q k. search rules)))
+    sorted_is _ _ rising (c.in_ok-sort_by_key.ensures.stable (λ l. l.address) (answers_always _ _ _ (λ f a r q k. search rules)))

@@ -8,12 +8,10 @@ text_of-requires c = c.requires 0 _ (omega arith)
 
 pub returns-in-Some : goal.returns-in-Some
 returns-in-Some c =
-    ap directive_or_none (sym c.in-Some.is)
-    ∙ dot_told c.args.line.now c.args.tokens.now _ _ _ _ c.in-len1-up.len_at_least (sym c.is_name.ensures ∙ c.if-is_name.true)
+    ap directive_or_none (sym c.in-Some.is) ∙ dot_told _ _ _ _ _ _ c.in-len1-up.len_at_least (sym c.is_name.ensures ∙ c.if-is_name.true)
     c.text_of.ensures c.directive_of.ensures
 
 pub returns-in-None : goal.returns-in-None
 returns-in-None c =
-    ap directive_or_none (sym c.in-None.is)
-    ∙ dot_told c.args.line.now c.args.tokens.now _ _ _ _ c.in-len1-up.len_at_least (sym c.is_name.ensures ∙ c.if-is_name.true)
+    ap directive_or_none (sym c.in-None.is) ∙ dot_told _ _ _ _ _ _ c.in-len1-up.len_at_least (sym c.is_name.ensures ∙ c.if-is_name.true)
     c.text_of.ensures c.directive_of.ensures

@@ -7,11 +7,8 @@ pub loop-start-preserved : goal.loop-start-preserved
 loop-start-preserved c = record {
   within = omega (arith, c.first_line_len-len.ensures.within, c.split_at.ensures.back_len);
   left =
-      cut_line c.args.text.now c.loop-start.start c.first_line_len-len.result c.loop-start.lines.items c.push.new.self.items
-      c.split_at-in-loop-start.result.0 c.loop-start-test.true
-      (c.first_line_len-len.ensures.len ∙ ap first_len c.split_at.ensures.back)
-      (c.split_at-in-loop-start.ensures.front ∙ ap (take c.first_line_len-len.result) c.split_at.ensures.back)
-      c.in_ok-push.ensures.items
+      cut_line _ _ _ _ _ _ c.loop-start-test.true (c.first_line_len-len.ensures.len ∙ ap first_len c.split_at.ensures.back)
+      (c.split_at-in-loop-start.ensures.front ∙ ap (take c.first_line_len-len.result) c.split_at.ensures.back) c.in_ok-push.ensures.items
       ∙ c.loop-start.invariant.left;
 }
 

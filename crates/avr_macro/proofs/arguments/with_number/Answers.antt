@@ -1,5 +1,4 @@
-use Rattle.std.proofs.Common.{◌≡◌, ◌∙◌, not, sym, ap, get_or}
-use Rattle.std.specs.Prelude.{◌==◌, ◌&&◌}
+use Rattle.std.proofs.Common.{◌≡◌, ◌∙◌, not, sym, ap, get_or, ◌==◌, ◌&&◌}
 use Rattle.avr_macro.proofs.TextLines.{byte_put}
 use Rattle.avr_macro.proofs.arguments.with_number.Goals.{then-not-named, else-not-named}
 use Rattle.avr_macro.proofs.arguments.with_number.Goals as goal
@@ -11,6 +10,4 @@ loop-byte-preserved c = λ call is.
       | then-not-named w ↦ w.named-is ∙ sym (ap (λ t. not t && test) w.if-not-named.true)
       | else-not-named w ↦ w.named-is ∙ ap not w.if-not-named.false ∙ sym (ap (λ t. not t && test) w.if-not-named.false)
     ] in
-    byte_put c.args.arguments.now call c.loop-byte.named c.if-not-named.named c.args.text.now c.loop-byte.line.items
-    c.put_byte.new.line.items c.loop-byte.byte-index c.loop-byte-test.true (c.in_ok-put_byte.ensures call is) then
-    ∙ c.loop-byte.invariant call is
+    byte_put _ _ _ _ _ _ _ _ c.loop-byte-test.true (c.in_ok-put_byte.ensures call is) then ∙ c.loop-byte.invariant call is

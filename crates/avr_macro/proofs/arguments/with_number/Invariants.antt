@@ -1,5 +1,4 @@
-use Rattle.std.proofs.Common.{◌≡◌, ◌++◌, ℕ, drop}
-use Rattle.std.specs.Prelude.{decimal}
+use Rattle.std.proofs.Common.{◌≡◌, ◌++◌, ℕ, drop, decimal}
 use Rattle.avr_macro.specs.Arguments.{replaced, replaced_from}
 use Rattle.avr_macro.proofs.arguments.with_number.Given as goal
 

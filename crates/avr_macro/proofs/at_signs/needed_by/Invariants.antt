@@ -1,5 +1,4 @@
-use Rattle.std.proofs.Common.{◌≡◌, drop}
-use Rattle.std.specs.Prelude.{max}
+use Rattle.std.proofs.Common.{◌≡◌, drop, max}
 use Rattle.avr_macro.specs.AtSigns.{needed_by}
 use Rattle.avr_macro.proofs.at_signs.needed_by.Given as goal
 

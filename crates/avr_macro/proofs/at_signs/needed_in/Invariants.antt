@@ -1,5 +1,4 @@
-use Rattle.std.proofs.Common.{◌≡◌, drop}
-use Rattle.std.specs.Prelude.{max}
+use Rattle.std.proofs.Common.{◌≡◌, drop, max}
 use Rattle.avr_macro.specs.AtSigns.{needed_from, needed_in}
 use Rattle.avr_macro.proofs.at_signs.needed_in.Given as goal
 

@@ -4,6 +4,4 @@ use Rattle.avr_macro.proofs.ends.closing_of.Goals as goal
 
 pub returns : goal.returns
 returns c =
-    c.closing_at_place.ensures
-    ∙ closing_found c.args.blocks.now c.args.line c.first_from-place.result c.requires c.first_from-place.ensures.place.0
-    c.first_from-place.ensures.place.1
+    c.closing_at_place.ensures ∙ closing_found _ _ _ c.requires c.first_from-place.ensures.place.0 c.first_from-place.ensures.place.1

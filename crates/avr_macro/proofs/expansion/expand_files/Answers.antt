@@ -1,28 +1,18 @@
 use Rattle.std.proofs.Common.{ℕ, Vec, Global, ◌∙◌, ap, inl, inr}
-use Rattle.uz_shelf.specs.Faults.{Rose}
-use Rattle.avr_macro.specs.Answers.{names_of}
 use Rattle.avr_macro.specs.declared.origin.Origin.{Origin}
-use Rattle.avr_macro.specs.Steps.{seen_expander}
 use Rattle.avr_macro.proofs.Runs.{all_expanded, cut_off, no_fewer, rose_before}
 use Rattle.avr_macro.proofs.expansion.expand_files.Goals as goal
 
 pub returns-in-Ok-run-clause-came : goal.returns-in-Ok-run-clause-came
 returns-in-Ok-run-clause-came g c =
-    all_expanded (g.H.Shelf.files c.args.shelf.now) (g.H.Shelf.files c.first_file.new.shelf) c.args.name.now
-    (names_of c.begin_names.new.names) (names_of c.run.new.names) (seen_expander c.in-Ok-first_file.expander)
-    (seen_expander c.run.new.expander) c.flat_of.result
+    all_expanded _ _ _ _ _ _ _ c.flat_of.result
     c.first_file.ensures.files c.in-Ok.ensures.ok c.in-Ok-first_file.ensures.begins c.in-Ok-run.ensures.runs
     (ap (λ (v : Vec ℕ Global). v.items) c.flat_of.ensures.text) (ap (λ (v : Vec Origin Global). v.items) c.flat_of.ensures.origins)
 
 pub returns-in-Err-run-clause-came : goal.returns-in-Err-run-clause-came
 returns-in-Err-run-clause-came g c =
-    cut_off (g.H.Shelf.files c.args.shelf.now) (g.H.Shelf.files c.first_file.new.shelf) (Rose (g.H.Shelf.load_faults c.first_file.new.shelf)
-    (g.H.Shelf.load_faults c.run.new.shelf)) (Rose (g.H.Shelf.load_faults c.args.shelf.now) (g.H.Shelf.load_faults c.run.new.shelf))
-    c.args.name.now (names_of c.begin_names.new.names) (names_of c.run.new.names) (seen_expander c.in-Ok-first_file.expander)
-    c.in-Err-run.error
-    c.first_file.ensures.files c.in-Ok.ensures.ok c.in-Ok-first_file.ensures.begins
-    (rose_before (g.H.Shelf.load_faults c.args.shelf.now) (g.H.Shelf.load_faults c.first_file.new.shelf)
-    (g.H.Shelf.load_faults c.run.new.shelf) c.first_file.ensures.load_faults) c.in-Err-run.ensures.runs
+    cut_off _ _ _ _ _ _ _ _ _ c.first_file.ensures.files c.in-Ok.ensures.ok c.in-Ok-first_file.ensures.begins (rose_before _ _
+    _ c.first_file.ensures.load_faults) c.in-Err-run.ensures.runs
 
 pub returns-in_default-clause-came : goal.returns-in_default-clause-came
 returns-in_default-clause-came g c = inl (c.out_of_memory.ensures, c.in_default.ensures.err)

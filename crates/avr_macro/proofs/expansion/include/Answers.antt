@@ -1,5 +1,4 @@
-use Rattle.std.proofs.Common.{Global, List, ℕ, ◌∷◌, [], ◌++◌, ◌∙◌, refl, ap, subst, inl, inr, arith}
-use Rattle.std.specs.Prelude.{string_bytes}
+use Rattle.std.proofs.Common.{Global, List, ℕ, ◌∷◌, [], ◌++◌, ◌∙◌, refl, ap, subst, inl, arith, string_bytes}
 use Rattle.std.specs.declared.string.String.{String}
 use Rattle.std.proofs.lemmas.List.{length-map}
 use Rattle.uz_shelf.specs.Faults.{Rose}
@@ -59,9 +58,6 @@ returns-in_default-put_name-clause-came g c =
 pub returns-clause-came : goal.returns-clause-came
 returns-clause-came g c =
     let names = names_of c.args.names.now in
-    file_unloaded (g.H.Shelf.files c.args.shelf.now)
-    (Rose (g.H.Shelf.load_faults c.args.shelf.now) (g.H.Shelf.load_faults c.load.new.self)) names
-    (names_of c.put_name.new.names) (string_bytes c.args.request.name) c.as_str-2.result.now (seen_frame c.args.request.frame)
-    (seen_expander c.args.expander.now) c.in-Err.error c.why_unloaded.result c.why_unloaded.ensures
+    file_unloaded _ _ _ _ _ _ (seen_frame c.args.request.frame) (seen_expander c.args.expander.now) _ _ c.why_unloaded.ensures
     (c.in-Ok-put_name.ensures.ok ∙ ap (λ (name : List ℕ). names ++ name ∷ []) c.as_str.ensures.value)
     c.as_str-2.ensures.value c.in-Err.ensures.failed c.in-Err.ensures.too_long

@@ -1,5 +1,4 @@
-use Rattle.std.proofs.Common.{ℕ, refl, ◌∙◌, arith}
-use Rattle.std.specs.Prelude.{string_bytes, Ok, Err}
+use Rattle.std.proofs.Common.{ℕ, refl, ◌∙◌, arith, string_bytes, Ok, Err}
 use Rattle.uz_shelf.specs.Faults.{Rose}
 use Rattle.avr_macro.specs.Answers.{names_of}
 use Rattle.avr_macro.specs.Expansion.{reaches_here}
@@ -17,17 +16,9 @@ lines-init g c = record { reached = reaches_here; files = refl; open_file = refl
 
 pub lines-preserved-in-None : goal.lines-preserved-in-None
 lines-preserved-in-None g c =
-    let gives = asked_none c.in-Ok.asked (around (seen_frames c.pop.new.self.items) (seen_expander c.lines.expander))
-    (seen_expander c.step.new.self) (seen_frame c.in-Some.frame)
-    (move_of (seen_frame c.in-Some.frame) (around (seen_frames c.pop.new.self.items) (seen_expander c.lines.expander))) c.in-None.is
-    c.in-Ok.ensures.gives in
+    let gives = asked_none _ _ _ _ _ c.in-None.is c.in-Ok.ensures.gives in
     record {
-      reached =
-          goes_on (g.H.Shelf.files c.args.shelf.now) (names_of c.args.names.now) (names_of c.lines.names)
-          (seen_expander c.args.expander.now) (seen_expander c.lines.expander) (seen_expander c.step.new.self)
-          (seen_frame c.in-Some.frame)
-          (seen_frames c.pop.new.self.items) c.lines.invariant.reached (last_frame c.pop.new.self.items c.lines.expander.frames.items
-          c.in-Some.frame c.in-Some.ensures.items) gives;
+      reached = goes_on _ _ _ _ _ _ _ _ c.lines.invariant.reached (last_frame _ _ _ c.in-Some.ensures.items) gives;
       files = c.lines.invariant.files;
       open_file = c.lines.invariant.open_file;
       load_faults = c.lines.invariant.load_faults;
@@ -64,33 +55,15 @@ lines-preserved g c =
 
 pub returns-in-Err-clause-runs : goal.returns-in-Err-clause-runs
 returns-in-Err-clause-runs g c =
-    cut_at_line (g.H.Shelf.files c.args.shelf.now) _ (names_of c.args.names.now) (names_of c.lines.names)
-    (seen_expander c.args.expander.now) (seen_expander c.lines.expander) (seen_frame c.in-Some.frame) (seen_frames c.pop.new.self.items)
-    _ c.in-Err.why
-    c.lines.invariant.reached (last_frame c.pop.new.self.items c.lines.expander.frames.items c.in-Some.frame c.in-Some.ensures.items) refl
-    refl c.in-Err.ensures.gives
+    cut_at_line _ _ _ _ _ _ _ _ _ _ c.lines.invariant.reached (last_frame _ _ _ c.in-Some.ensures.items) refl refl c.in-Err.ensures.gives
 
 pub returns-in-Err-include-clause-runs : goal.returns-in-Err-include-clause-runs
 returns-in-Err-include-clause-runs g c =
-    let gives = asked_for c.in-Ok.asked c.in-Some-asked.request (around (seen_frames c.pop.new.self.items) (seen_expander c.lines.expander))
-    (seen_expander c.step.new.self) (seen_frame c.in-Some.frame)
-    (move_of (seen_frame c.in-Some.frame) (around (seen_frames c.pop.new.self.items) (seen_expander c.lines.expander)))
-    c.in-Some-asked.is c.in-Ok.ensures.gives in
-    let came =
-    includes_same {X = ℕ} (g.H.Shelf.files c.args.shelf.now) (g.H.Shelf.files c.lines.shelf)
+    let gives = asked_for _ _ _ _ _ _ c.in-Some-asked.is c.in-Ok.ensures.gives in
+    let came = includes_same {X = ℕ} _ _
     (Rose (g.H.Shelf.load_faults c.lines.shelf) (g.H.Shelf.load_faults c.include.new.shelf)) (names_of c.lines.names)
-    (string_bytes c.in-Some-asked.request.name) (seen_frame c.in-Some.frame) (seen_frame c.in-Some-asked.request.frame)
-    (around (seen_frames c.pop.new.self.items) (seen_expander c.lines.expander)) (seen_expander c.step.new.self)
+    (string_bytes c.in-Some-asked.request.name) _ _ _ _
     (names_of c.include.new.names) (seen_expander c.include.new.expander) (Err c.in-Err-include.error)
     c.lines.invariant.files gives.frame gives.state c.in-Err-include.ensures.came in
-    cut_before (g.H.Shelf.files c.args.shelf.now) (Rose (g.H.Shelf.load_faults c.lines.shelf) (g.H.Shelf.load_faults c.include.new.shelf))
-    (Rose (g.H.Shelf.load_faults c.args.shelf.now) (g.H.Shelf.load_faults c.include.new.shelf))
-    (names_of c.args.names.now) (names_of c.include.new.names) (seen_expander c.args.expander.now) c.in-Err-include.error
-    (rose_before (g.H.Shelf.load_faults c.args.shelf.now) (g.H.Shelf.load_faults c.lines.shelf) (g.H.Shelf.load_faults c.include.new.shelf)
-    c.lines.invariant.load_faults)
-    (cut_at_file (g.H.Shelf.files c.args.shelf.now) (Rose (g.H.Shelf.load_faults c.lines.shelf) (g.H.Shelf.load_faults c.include.new.shelf))
-    (names_of c.args.names.now) (names_of c.lines.names) (names_of c.include.new.names)
-    (seen_expander c.args.expander.now) (seen_expander c.lines.expander) (seen_expander c.include.new.expander) (seen_frame c.in-Some.frame)
-    (seen_frames c.pop.new.self.items) (string_bytes c.in-Some-asked.request.name) c.in-Err-include.error
-    c.lines.invariant.reached (last_frame c.pop.new.self.items c.lines.expander.frames.items c.in-Some.frame c.in-Some.ensures.items)
-    gives.name came)
+    cut_before _ _ _ _ _ _ _ (rose_before _ _ _ c.lines.invariant.load_faults) (cut_at_file _ _ _ _ _
+    _ _ (seen_expander c.include.new.expander) _ _ _ _ c.lines.invariant.reached (last_frame _ _ _ c.in-Some.ensures.items) gives.name came)

@@ -9,24 +9,20 @@ pub loop-byte-preserved : goal.loop-byte-preserved
 loop-byte-preserved c = record {
   left = elim c.if-byte-eq10.branch [
     | then-byte-eq10+in_ok-lines w ↦
-        line_ended c.loop-byte.lines c.if-byte-eq10.lines c.loop-byte.line.items w.cut_return.new.line.items w.as_slice.result.now
-        c.if-byte-eq10.line.items c.args.text.now c.loop-byte.byte-index c.loop-byte-test.true w.if-byte-eq10.true w.cut_return.ensures
+        line_ended _ _ _ _ _ _ _ _ c.loop-byte-test.true w.if-byte-eq10.true w.cut_return.ensures
         w.as_slice.ensures.value (w.lines-is ∙ w.in_ok-lines.ensures) (ap (λ l. l.items) w.line-is ∙ w.clear.ensures.items)
         ∙ c.loop-byte.invariant.left
     | else-byte-eq10+in_ok-push w ↦
         ap (λ l. l ++ lines_from c.if-byte-eq10.line.items (drop (c.loop-byte.byte-index + 1) c.args.text.now)) w.lines-is
-        ∙ line_longer c.loop-byte.lines c.loop-byte.line.items c.if-byte-eq10.line.items c.args.text.now c.loop-byte.byte-index
-        c.loop-byte-test.true w.if-byte-eq10.false (ap (λ l. l.items) w.line-is ∙ w.in_ok-push.ensures.items)
+        ∙ line_longer _ _ _ _ _ c.loop-byte-test.true w.if-byte-eq10.false (ap (λ l. l.items) w.line-is ∙ w.in_ok-push.ensures.items)
         ∙ c.loop-byte.invariant.left
   ];
   few = elim c.if-byte-eq10.branch [
     | then-byte-eq10+in_ok-lines w ↦
-        few_ended c.loop-byte.lines c.if-byte-eq10.lines c.loop-byte.line.items w.as_slice.result.now c.if-byte-eq10.line.items
-        c.loop-byte.byte-index c.loop-byte.invariant.few (w.lines-is ∙ w.in_ok-lines.ensures)
+        few_ended _ _ _ _ _ _ c.loop-byte.invariant.few (w.lines-is ∙ w.in_ok-lines.ensures)
         (ap (λ l. l.items) w.line-is ∙ w.clear.ensures.items)
     | else-byte-eq10+in_ok-push w ↦
-        few_longer c.loop-byte.lines c.if-byte-eq10.lines c.loop-byte.line.items c.if-byte-eq10.line.items _
-        c.loop-byte.byte-index c.loop-byte.invariant.few w.lines-is (ap (λ l. l.items) w.line-is ∙ w.in_ok-push.ensures.items)
+        few_longer _ _ _ _ _ _ c.loop-byte.invariant.few w.lines-is (ap (λ l. l.items) w.line-is ∙ w.in_ok-push.ensures.items)
   ];
 }
 
@@ -34,12 +30,9 @@ pub returns-clause-lines : goal.returns-clause-lines
 returns-clause-lines c =
     elim c.if-len-gt0.branch [
       | then-len-gt0+in_ok-lines-2 w ↦
-          last_told c.loop-byte.lines c.if-len-gt0.lines c.loop-byte.line.items w.as_slice-then-len-gt0.result.now c.args.text.now
-          c.loop-byte.byte-index c.len.result c.loop-byte-test.false (c.len.ensures ∙ c.loop-byte.line.ok.0) w.if-len-gt0.true
+          last_told _ _ _ _ _ _ _ c.loop-byte-test.false (c.len.ensures ∙ c.loop-byte.line.ok.0) w.if-len-gt0.true
           w.as_slice-then-len-gt0.ensures.value (w.lines-is ∙ w.in_ok-lines-2.ensures) ∙ c.loop-byte.invariant.left
       | else-len-gt0 w ↦
-          w.lines-is
-          ∙ none_told c.loop-byte.lines c.loop-byte.line.items c.args.text.now c.loop-byte.byte-index c.len.result c.loop-byte-test.false
-          (c.len.ensures ∙ c.loop-byte.line.ok.0) w.if-len-gt0.false
+          w.lines-is ∙ none_told _ _ _ _ _ c.loop-byte-test.false (c.len.ensures ∙ c.loop-byte.line.ok.0) w.if-len-gt0.false
           ∙ c.loop-byte.invariant.left
     ]

@@ -2,22 +2,19 @@ use Rattle.std.proofs.Common.{refl}
 use Rattle.avr_table.specs.declared.Instr.TheVariants as i
 use Rattle.avr_text.specs.Fields.{field}
 use Rattle.avr_text.specs.Instructions.{load}
-use Rattle.avr_text.specs.declared.pointers.Pointer.TheVariants.{X, Y, Z}
-use Rattle.avr_text.specs.declared.pointers.Step.TheVariants.{Plain, Increment, Decrement}
+use Rattle.avr_text.specs.declared.pointers.Pointer.TheVariants.{Y, Z}
+use Rattle.avr_text.specs.declared.pointers.Step.TheVariants.{Increment, Decrement}
 use Rattle.avr_text.proofs.RowTold.{pointer_told}
 use Rattle.avr_text.proofs.instructions.load.Goals as goal
 
 pub returns-in-Plain : goal.returns-in-Plain
-returns-in-Plain c =
-    pointer_told i.LdX (field 5) load X Plain c.ranges.d c.in-X.is c.in-Plain.is c.field.ensures refl
+returns-in-Plain c = pointer_told i.LdX (field 5) load _ _ c.ranges.d c.in-X.is c.in-Plain.is c.field.ensures refl
 
 pub returns-in-Increment : goal.returns-in-Increment
-returns-in-Increment c =
-    pointer_told i.LdXInc (field 5) load X Increment c.ranges.d c.in-X.is c.in-Increment.is c.field-in-Increment.ensures refl
+returns-in-Increment c = pointer_told i.LdXInc (field 5) load _ _ c.ranges.d c.in-X.is c.in-Increment.is c.field-in-Increment.ensures refl
 
 pub returns-in-Decrement : goal.returns-in-Decrement
-returns-in-Decrement c =
-    pointer_told i.LdXDec (field 5) load X Decrement c.ranges.d c.in-X.is c.in-Decrement.is c.field-in-Decrement.ensures refl
+returns-in-Decrement c = pointer_told i.LdXDec (field 5) load _ _ c.ranges.d c.in-X.is c.in-Decrement.is c.field-in-Decrement.ensures refl
 
 pub returns-in-Increment-step : goal.returns-in-Increment-step
 returns-in-Increment-step c =

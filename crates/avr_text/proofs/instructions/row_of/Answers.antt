@@ -77,8 +77,7 @@ returns-in-Muls c =
 
 pub returns-in-Mulsu : goal.returns-in-Mulsu
 returns-in-Mulsu c =
-    two_told i.Mulsu (field 3) (field 3) m.Mulsu c.ranges.x c.ranges.y c.in-Mulsu.is
-    c.field-in-Mulsu.ensures c.field-in-Mulsu-2.ensures refl
+    two_told i.Mulsu (field 3) (field 3) _ c.ranges.x c.ranges.y c.in-Mulsu.is c.field-in-Mulsu.ensures c.field-in-Mulsu-2.ensures refl
 
 pub returns-in-Fmul : goal.returns-in-Fmul
 returns-in-Fmul c =
@@ -86,13 +85,11 @@ returns-in-Fmul c =
 
 pub returns-in-Fmuls : goal.returns-in-Fmuls
 returns-in-Fmuls c =
-    two_told i.Fmuls (field 3) (field 3) m.Fmuls c.ranges.x c.ranges.y c.in-Fmuls.is
-    c.field-in-Fmuls.ensures c.field-in-Fmuls-2.ensures refl
+    two_told i.Fmuls (field 3) (field 3) _ c.ranges.x c.ranges.y c.in-Fmuls.is c.field-in-Fmuls.ensures c.field-in-Fmuls-2.ensures refl
 
 pub returns-in-Fmulsu : goal.returns-in-Fmulsu
 returns-in-Fmulsu c =
-    two_told i.Fmulsu (field 3) (field 3) m.Fmulsu c.ranges.x c.ranges.y c.in-Fmulsu.is
-    c.field-in-Fmulsu.ensures c.field-in-Fmulsu-2.ensures refl
+    two_told i.Fmulsu (field 3) (field 3) _ c.ranges.x c.ranges.y c.in-Fmulsu.is c.field-in-Fmulsu.ensures c.field-in-Fmulsu-2.ensures refl
 
 pub returns-in-Rjmp : goal.returns-in-Rjmp
 returns-in-Rjmp c = one_told i.Rjmp (field 12) m.Rjmp c.ranges.x c.ranges.y c.in-Rjmp.is c.field-in-Rjmp.ensures refl

@@ -2,22 +2,19 @@ use Rattle.std.proofs.Common.{refl}
 use Rattle.avr_table.specs.declared.Instr.TheVariants as i
 use Rattle.avr_text.specs.Fields.{field}
 use Rattle.avr_text.specs.Instructions.{store}
-use Rattle.avr_text.specs.declared.pointers.Pointer.TheVariants.{X, Y, Z}
-use Rattle.avr_text.specs.declared.pointers.Step.TheVariants.{Plain, Increment, Decrement}
+use Rattle.avr_text.specs.declared.pointers.Pointer.TheVariants.{Y, Z}
+use Rattle.avr_text.specs.declared.pointers.Step.TheVariants.{Increment, Decrement}
 use Rattle.avr_text.proofs.RowTold.{pointer_told}
 use Rattle.avr_text.proofs.instructions.store.Goals as goal
 
 pub returns-in-Plain : goal.returns-in-Plain
-returns-in-Plain c =
-    pointer_told i.StX (field 5) store X Plain c.ranges.r c.in-X.is c.in-Plain.is c.field.ensures refl
+returns-in-Plain c = pointer_told i.StX (field 5) store _ _ c.ranges.r c.in-X.is c.in-Plain.is c.field.ensures refl
 
 pub returns-in-Increment : goal.returns-in-Increment
-returns-in-Increment c =
-    pointer_told i.StXInc (field 5) store X Increment c.ranges.r c.in-X.is c.in-Increment.is c.field-in-Increment.ensures refl
+returns-in-Increment c = pointer_told i.StXInc (field 5) store _ _ c.ranges.r c.in-X.is c.in-Increment.is c.field-in-Increment.ensures refl
 
 pub returns-in-Decrement : goal.returns-in-Decrement
-returns-in-Decrement c =
-    pointer_told i.StXDec (field 5) store X Decrement c.ranges.r c.in-X.is c.in-Decrement.is c.field-in-Decrement.ensures refl
+returns-in-Decrement c = pointer_told i.StXDec (field 5) store _ _ c.ranges.r c.in-X.is c.in-Decrement.is c.field-in-Decrement.ensures refl
 
 pub returns-in-Increment-step : goal.returns-in-Increment-step
 returns-in-Increment-step c =

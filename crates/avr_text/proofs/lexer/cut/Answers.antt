@@ -23,8 +23,7 @@ loop-at-preserved-in-Gap c =
       within = omega (arith, c.in-Gap.ensures.within);
       lie = c.loop-at.invariant.lie;
       left =
-          ap (with_front c.loop-at.tokens.items)
-          (sym (cut_gap c.args.text.now c.loop-at.at c.loop-at.line c.in-Gap.n c.loop-at-test.true c.in-Gap.ensures.some there))
+          ap (with_front c.loop-at.tokens.items) (sym (cut_gap _ _ _ _ c.loop-at-test.true c.in-Gap.ensures.some there))
           ∙ c.loop-at.invariant.left;
     }
 
@@ -41,11 +40,9 @@ loop-at-preserved c =
             line = c.loop-at.line;
             from = c.loop-at.at;
             to = c.loop-at.at + c.in-Token.n;
-          }) [] (omega arith, omega (arith, c.in-Token.ensures.within))
-          (All-nil (Lies (length c.args.text.now)))));
+          }) [] (omega arith, omega (arith, c.in-Token.ensures.within)) (All-nil (Lies (length c.args.text.now)))));
       left =
-          token_more c.args.text.now c.loop-at.at c.loop-at.line c.in-Token.kind c.in-Token.n c.loop-at.tokens.items c.push.new.self.items
-          c.line_after-line.result
+          token_more _ _ _ _ _ _ _ _
           c.loop-at-test.true c.in-Token.ensures.some there c.in_ok-push-in-Token.ensures.items c.line_after-line.ensures
           ∙ c.loop-at.invariant.left;
     }
@@ -55,15 +52,13 @@ returns-in-Fault c =
     let there = ap piece_at (sym c.split_at.ensures.back) ∙ sym c.in-Fault.ensures.piece in
     record {
       lie = tt;
-      memory = λ m. absurd (not_memory c.args.text.now c.loop-at.at c.in-Fault.why c.loop-at-test.true there m);
-      tokens = inr (sym c.loop-at.invariant.left ∙ ap (with_front c.loop-at.tokens.items)
-          (cut_fault c.args.text.now c.loop-at.at c.loop-at.line c.in-Fault.why c.loop-at-test.true there));
+      memory = λ m. absurd (not_memory _ _ _ c.loop-at-test.true there m);
+      tokens = inr (sym c.loop-at.invariant.left ∙ ap (with_front c.loop-at.tokens.items) (cut_fault _ _ _ _ c.loop-at-test.true there));
     }
 
 pub returns : goal.returns
 returns c = record {
   lie = c.loop-at.invariant.lie;
   memory = tt;
-  tokens = sym c.loop-at.invariant.left ∙ whole c.loop-at.tokens.items
-      c.args.text.now c.loop-at.at c.loop-at.line (omega arith);
+  tokens = sym c.loop-at.invariant.left ∙ whole _ _ _ _ (omega arith);
 }

@@ -4,6 +4,5 @@ use Rattle.avr_text.proofs.reader.signed.Goals as goal
 
 pub loop-i-preserved-in-Some : goal.loop-i-preserved-in-Some
 loop-i-preserved-in-Some c =
-    signed_step c.args.tokens.now c.args.from c.loop-i.i c.in-Some.token.now c.loop-i.value c.sign_applied-value.result c.loop-i-test.true
-    c.in-Some.ensures.lookup.0 c.in-Some.ensures.lookup.1 c.sign_applied-value.ensures
+    signed_step _ _ _ _ _ _ c.loop-i-test.true c.in-Some.ensures.lookup.0 c.in-Some.ensures.lookup.1 c.sign_applied-value.ensures
     ∙ c.loop-i.invariant

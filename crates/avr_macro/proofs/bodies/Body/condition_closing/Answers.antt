@@ -1,13 +1,10 @@
 use Rattle.std.proofs.Common.{sym, subst, ◌∙◌, ap}
 use Rattle.std.specs.List.Sorted.{IsNonDecreasingBy}
 use Rattle.avr_macro.specs.declared.blocks.Blocks.{Blocks}
-use Rattle.avr_macro.specs.declared.directives.Word.TheVariants.{If, EndIf}
-use Rattle.avr_macro.specs.AtSigns.{filled}
 use Rattle.avr_macro.proofs.BlockEnds.{blocks_in_order}
 use Rattle.avr_macro.proofs.bodies.Body.condition_closing.Goals as goal
 
 pub closing_of-requires : goal.closing_of-requires
 closing_of-requires c =
     let kept = c.as_slice.ensures.value ∙ ap (λ (b : Blocks). b.conditions.items) c.as_ref.ensures ∙ c.self.invariant.conditions in
-    subst (IsNonDecreasingBy (λ b. b.line)) (sym kept)
-    (blocks_in_order If EndIf (filled c.self.inside.substitution c.self.inside.text.value.lines))
+    subst (IsNonDecreasingBy (λ b. b.line)) (sym kept) (blocks_in_order _ _ _)

@@ -1,5 +1,4 @@
-use Rattle.std.proofs.Common.{sym, subst, ◌∙◌, ap}
-use Rattle.std.specs.Prelude.{Some}
+use Rattle.std.proofs.Common.{sym, subst, ◌∙◌, ap, Some}
 use Rattle.avr_macro.specs.declared.bodies.Text.{Text}
 use Rattle.avr_macro.specs.AtSigns.{filled}
 use Rattle.avr_macro.specs.Kinds.{AreBlocks}
@@ -11,5 +10,4 @@ returns-then-keeps_directives c =
     let text = c.args.self.now.text.value in
     let kept = c.in_ok-blocks.ensures ∙ ap (λ (t : Text). t.blocks.value) c.as_ref.ensures in
     subst (AreBlocks (filled (Some c.args.substitution.now) text.lines)) (sym kept)
-    (same_blocks c.args.substitution.now text.lines text.blocks.value (c.keeps_directives.ensures c.if-keeps_directives.true)
-    text.all_blocks)
+    (same_blocks _ _ _ (c.keeps_directives.ensures c.if-keeps_directives.true) text.all_blocks)

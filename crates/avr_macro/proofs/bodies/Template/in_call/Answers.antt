@@ -15,6 +15,5 @@ pub returns : goal.returns
 returns c =
     let put : List ℕ → List ℕ = replaced c.args.substitution.arguments c.args.substitution.call in
     let count = c.count-end.ensures ∙ ap (λ (t : Text). length t.lines) c.as_ref.ensures in
-    whole_body c.in_ok-new.field-0.value c.count-end.result
-    (as_many put c.in_ok-text.text.value.lines c.in_ok-new.field-0.value c.count-end.result c.in_ok-new.ensures.ok count)
+    whole_body _ _ (as_many put _ _ _ c.in_ok-new.ensures.ok count)
     ∙ c.in_ok-new.ensures.ok ∙ ap (λ (t : Text). map put t.lines) c.in_ok-text.ensures

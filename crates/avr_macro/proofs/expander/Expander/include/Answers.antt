@@ -1,5 +1,4 @@
-use Rattle.std.proofs.Common.{◌≡◌, subst, true, false, arith}
-use Rattle.std.specs.Prelude.{nat_le}
+use Rattle.std.proofs.Common.{◌≡◌, subst, true, false, arith, nat_le}
 use Rattle.std.proofs.lemmas.Bool.Decides.{nat_tests}
 use Rattle.avr_macro.specs.Blocks.{is_zero}
 use Rattle.avr_macro.specs.Steps.{Gives, seen_expander}
@@ -12,6 +11,5 @@ returns-clause-gives c =
     let shallow : nat_le 8 c.args.frame.includes ≡ false = grind (arith, nat_tests) in
     let outside : is_zero c.args.frame.blocks ≡ true = grind (arith, nat_tests) in
     subst (Gives c.enter.result (seen_expander c.enter.new.self))
-    (file_entered c.args.file c.args.bytes.now (seen_frame c.args.frame) _ _ (seen_expander c.args.self.now) shallow outside
-    c.in_ok-inner.ensures c.passed.ensures)
+    (file_entered _ c.args.bytes.now (seen_frame c.args.frame) _ _ _ shallow outside c.in_ok-inner.ensures c.passed.ensures)
     c.enter.ensures.gives

@@ -1,7 +1,6 @@
 use Rattle.std.proofs.Common.{List, [], ◌∷◌, ◌++◌, ◌∙◌, ap}
 use Rattle.avr_macro.specs.declared.frames.Frame.{Frame}
 use Rattle.avr_macro.specs.States.{Level}
-use Rattle.avr_macro.specs.Views.{seen_frames}
 use Rattle.avr_macro.proofs.Levels.{begun, last_frame}
 use Rattle.avr_macro.proofs.expander.Expander.new.Goals as goal
 
@@ -9,6 +8,5 @@ pub returns : goal.returns
 returns c =
     let file = c.in_ok-file.file in
     let pushed = c.in_ok-push.ensures.items ∙ ap (λ (frames : List Frame). frames ++ file ∷ []) c.new-frames.ensures.items in
-    let levels = last_frame [] c.push.new.self.items file pushed ∙ ap (λ (level : Level). level ∷ []) c.in_ok-file.ensures in
-    begun (seen_frames c.push.new.self.items) c.new.result c.in_ok-predefined.field-0 c.new-2.result.items c.new-3.result.items c.args.bytes.now
-    levels c.new.ensures c.in_ok-predefined.ensures c.new-2.ensures.items c.new-3.ensures.items
+    let levels = last_frame [] _ file pushed ∙ ap (λ (level : Level). level ∷ []) c.in_ok-file.ensures in
+    begun _ _ _ _ _ c.args.bytes.now levels c.new.ensures c.in_ok-predefined.ensures c.new-2.ensures.items c.new-3.ensures.items

@@ -14,8 +14,7 @@ returns-in-Some-clause-gives c =
 pub returns-clause-gives : goal.returns-clause-gives
 returns-clause-gives c =
     subst (GivesStep c.line-in-None.result (seen_expander c.args.self.now) (seen_expander c.line-in-None.new.self)
-    (seen_frame c.args.frame))
-    (line_moves c.args.frame (seen_expander c.args.self.now) c.as_slice.result.now (omega arith) c.args.frame.within
+    (seen_frame c.args.frame)) (line_moves c.args.frame _ _ (omega arith) c.args.frame.within
     (c.as_slice.ensures.value ∙ c.in_ok-line-in-None.ensures
     ∙ ap (λ (t : List (List ℕ)). get_or t c.args.frame.at []) (c.as_ref-in-None.ensures ∙ c.in_ok-body.ensures)))
     c.line-in-None.ensures.gives

@@ -4,6 +4,4 @@ use Rattle.avr_macro.proofs.Levels.{same_level}
 use Rattle.avr_macro.proofs.frames.Frame.passed.Goals as goal
 
 pub returns : goal.returns
-returns c = same_level _ _ _ _ _ _ _ _ _ _ _
-    (after_some c.args.self.body.value c.args.self.at c.args.self.end c.args.n c.requires) refl
-    c.place_after.ensures
+returns c = same_level _ _ _ _ _ _ _ _ _ _ _ (after_some _ _ _ _ c.requires) refl c.place_after.ensures

@@ -4,14 +4,11 @@ use Rattle.avr_macro.proofs.kept_lines.Lines.with.Goals as goal
 
 pub invariant_of-lines : goal.invariant_of-lines
 invariant_of-lines c = (
-  rise_added c.lines.inside.text.items c.extend_from_slice.new.self.items c.args.line.now c.lines.inside.ends.items c.push.new.self.items
-      (length c.as_slice.result.now) c.lines.invariant.0 c.in_ok-extend_from_slice.ensures.items (ap length c.as_slice.ensures.value)
+  rise_added _ _ _ _ _ _ c.lines.invariant.0 c.in_ok-extend_from_slice.ensures.items (ap length c.as_slice.ensures.value)
       c.in_ok-push.ensures.items,
   omega (arith, ap length c.in_ok-extend_from_slice.ensures.items, length-append c.lines.inside.text.items c.args.line.now),
 )
 
 pub returns : goal.returns
-returns c = line_added c.lines.inside.text.items c.extend_from_slice.new.self.items c.args.line.now c.lines.inside.ends.items
-    c.push.new.self.items
-    (length c.as_slice.result.now) c.args.self c.lines.invariant.0 c.lines.view_is c.in_ok-extend_from_slice.ensures.items
+returns c = line_added _ _ _ _ _ _ _ c.lines.invariant.0 c.lines.view_is c.in_ok-extend_from_slice.ensures.items
     (ap length c.as_slice.ensures.value) c.in_ok-push.ensures.items

@@ -5,7 +5,5 @@ use Rattle.avr_macro.proofs.readers.Reader.directive.Goals as goal
 
 pub returns-in_ok-name-in-Some : goal.returns-in_ok-name-in-Some
 returns-in_ok-name-in-Some c =
-    c.named_word.ensures ∙ ap named_word c.as_slice.ensures.value ∙ c.in_ok-name-in-Some.ensures
-    ∙ directive_read c.next-next.result c.past_blanks.result c.next-next-in-Some.result c.past_blanks-next.result c.in-Some.byte
-    c.args.self.now c.next-next.new.self c.past_blanks.new.self c.next-next-in-Some.new.self c.past_blanks-next.new.self
+    c.named_word.ensures ∙ ap named_word c.as_slice.ensures.value ∙ c.in_ok-name-in-Some.ensures ∙ directive_read _ _ _ _ _ _ _ _ _ _
     c.next-next.ensures c.in-Some.is c.past_blanks.ensures c.if-byte-ne46.false c.next-next-in-Some.ensures c.past_blanks-next.ensures

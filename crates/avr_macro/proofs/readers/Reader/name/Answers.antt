@@ -4,13 +4,12 @@ use Rattle.avr_macro.proofs.readers.Reader.name.Goals as goal
 
 pub loop-byte-preserved : goal.loop-byte-preserved
 loop-byte-preserved c = record {
-  letters = letters_more (length c.as_slice.result.now) c.loop-byte.ahead c.next-ahead.result c.letter.result c.in-Some.byte c.loop-byte.name.items
-      c.push.new.self.items c.loop-byte.self c.next-ahead.new.self _ c.letter.ensures c.in-Some.is c.in_ok-push.ensures.items c.next-ahead.ensures
-      c.loop-byte.invariant.letters;
-  ended = nothing_left c.next-ahead.result c.loop-byte.self c.next-ahead.new.self c.next-ahead.ensures;
+  letters = letters_more (length c.as_slice.result.now) c.loop-byte.ahead _ _ _ _ _ _ _ _ c.letter.ensures c.in-Some.is
+      c.in_ok-push.ensures.items c.next-ahead.ensures c.loop-byte.invariant.letters;
+  ended = nothing_left _ _ _ c.next-ahead.ensures;
 }
 
 pub returns : goal.returns
 returns c =
-    letters_told (length c.as_slice.result.now) c.loop-byte.ahead c.loop-byte.name.items c.loop-byte.self _ (sym c.in_default.is ∙ c.letter.ensures)
+    letters_told (length c.as_slice.result.now) c.loop-byte.ahead _ _ _ (sym c.in_default.is ∙ c.letter.ensures)
     (ap length c.as_slice.ensures.value) c.loop-byte.invariant.ended c.loop-byte.invariant.letters

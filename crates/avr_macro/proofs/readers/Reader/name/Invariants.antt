@@ -1,5 +1,4 @@
-use Rattle.std.proofs.Common.{◌≡◌, ◌++◌, [], length}
-use Rattle.std.specs.Prelude.{IfNone}
+use Rattle.std.proofs.Common.{◌≡◌, ◌++◌, [], length, IfNone}
 use Rattle.avr_macro.specs.Lines.{word_of}
 use Rattle.avr_macro.specs.Readers.{from_next}
 use Rattle.avr_macro.proofs.readers.Reader.name.Given as goal

@@ -1,5 +1,4 @@
-use Rattle.std.proofs.Common.{◌≡◌, [], length}
-use Rattle.std.specs.Prelude.{IfNone}
+use Rattle.std.proofs.Common.{◌≡◌, [], length, IfNone}
 use Rattle.avr_macro.specs.Lines.{after_word}
 use Rattle.avr_macro.specs.Readers.{from_next}
 use Rattle.avr_macro.proofs.readers.Reader.past_word.Given as goal

@@ -1,5 +1,4 @@
-use Rattle.std.proofs.Common.{sym, ◌∙◌, ap}
-use Rattle.std.specs.Prelude.{not, is_none}
+use Rattle.std.proofs.Common.{sym, ◌∙◌, ap, not, is_none}
 use Rattle.std.specs.FinMap as map
 use Rattle.std.specs.BTreeMap.{insert_entry}
 use Rattle.std.specs.Int.{w64}
@@ -22,7 +21,6 @@ pub returns-clause-after : goal.returns-clause-after
 returns-clause-after c =
     ap (λ es. map.from_entries (named es)) c.in_ok-insert.ensures.entries
     ∙ ap (λ v. map.from_entries (named (insert_entry by_bytes c.self.inside.values.entries c.in_ok-key.key v)))
-    (to_z-of_z w64 c.args.value c.ranges.value)
-    ∙ put_name c.self.inside.values.entries c.in_ok-key.key c.args.value
+    (to_z-of_z w64 c.args.value c.ranges.value) ∙ put_name c.self.inside.values.entries _ _
     ∙ ap (λ n. map.insert (map.from_entries (named c.self.inside.values.entries)) n c.args.value) c.in_ok-key.ensures.items
     ∙ ap (λ m. map.insert m c.args.name.now c.args.value) c.self.view_is

@@ -1,9 +1,6 @@
-use Rattle.std.proofs.Common.{sym, ◌∙◌, ap}
 use Rattle.std.specs.FinMap as map
 use Rattle.avr_text.proofs.SymbolMaps.{get_name}
 use Rattle.avr_text.proofs.symbols.Symbols.get.Goals as goal
 
 pub returns : goal.returns
-returns c =
-    c.copied.ensures ∙ c.get.ensures.value ∙ sym (get_name c.self.inside.values.entries c.args.name.now)
-    ∙ ap (λ m. map.get m c.args.name.now) c.self.view_is
+returns c = cc (c.copied.ensures, c.get.ensures.value, get_name c.self.inside.values.entries c.args.name.now, c.self.view_is)
