@@ -1,41 +1,22 @@
 -- Each line that is within limits where it is due keeps what is read so far within limits.
-use Rattle.std.proofs.Common.{◌≡◌, ◌⊎◌, inl, inr, ℕ, zero, suc, ◌+◌, ◌-◌, ◌*◌, ◌<◌, ◌≤◌, Bool, true, false, ◌&&◌, eqb, ltb, List}
-use Rattle.std.proofs.Common.{[], ◌∷◌, ◌++◌, length, map, replicate, All, refl, sym, ◌∙◌, ap, subst, arith, length-append}
-use Rattle.std.specs.Prelude.{Option, Some, None, IfSome, sum_by}
-use Rattle.std.proofs.lemmas.Bool.{le-leb, eqb-true, eqb-false}
-use Rattle.std.proofs.lemmas.Nat.{mul-le}
-use Rattle.std.proofs.lemmas.List.{map-append, length-replicate}
-use Rattle.std.proofs.lemmas.List.Sums.{sum_by_push}
-use Rattle.std.proofs.lemmas.List.Elements.{All-nil, All-push, All-append, All-replicate, All-weaker}
-use Rattle.uz_schedule.specs.Limits.{clock_limit, most_events, rises, is_length, clocks_below, lengths_fit, EventFits}
-use Rattle.uz_schedule.specs.Limits.{EventsFit}
-use Rattle.uz_schedule.specs.Schedule.{scanline}
-use Rattle.uz_schedule.specs.WellFormed.{StackFits, CellFits, RestFits, EntryFits, PointFits, instances_of}
-use Rattle.uz_schedule.specs.declared.header.Cell.{Cell}
-use Rattle.uz_schedule.specs.declared.header.Head.{Head}
-use Rattle.uz_schedule.specs.declared.lines.Event.{Event}
-use Rattle.uz_schedule.specs.declared.states.Rest.{Rest}
-use Rattle.uz_schedule.specs.declared.states.Entry.{Entry}
-use Rattle.uz_schedule.specs.declared.states.Point.{Point}
-use Rattle.uz_cert_lines.specs.declared.lines.Sizes.{Sizes}
-use Rattle.uz_cert_lines.specs.declared.lines.ParsedLine.{ParsedLine}
-use Rattle.uz_cert_lines.specs.declared.lines.KindLine.{KindLine}
-use Rattle.uz_cert_lines.specs.declared.lines.ParsedLine.TheVariants as parsed
-use Rattle.uz_cert_lines.specs.declared.version.Version.{Version}
-use Rattle.uz_cert_lines.specs.declared.version.Version.TheVariants.{First, Second, Third}
-use Rattle.uz_cert_laws.proofs.Tests.{and_true, both_true, true_not}
-use Rattle.uz_cert.specs.Drafts.{first_draft, lacks, expected_line, with_said, draft_after}
-use Rattle.uz_cert.specs.SaidLines.{expected_as}
-use Rattle.uz_cert.specs.declared.expected_line.ExpectedLine.TheVariants as expected
+use Rattle.uz_cert.proofs.Common.{◌≡◌, ◌⊎◌, inl, inr, ℕ, zero, suc, ◌+◌, ◌-◌, ◌<◌, ◌≤◌, Bool, true, false, ◌&&◌, eqb, ltb, List, [], ◌∷◌}
+use Rattle.uz_cert.proofs.Common.{◌++◌, length, map, replicate, All, refl, sym, ◌∙◌, ap, subst, arith, length-append, Option, Some, None}
+use Rattle.uz_cert.proofs.Common.{IfSome, sum_by, eqb-true, eqb-false, map-append, length-replicate, All-nil, All-weaker, clock_limit}
+use Rattle.uz_cert.proofs.Common.{is_length, clocks_below, lengths_fit, EventFits, EventsFit, scanline, StackFits, CellFits, RestFits}
+use Rattle.uz_cert.proofs.Common.{EntryFits, PointFits, instances_of, Cell, Head, Event, Rest, Entry, Point, Sizes, ParsedLine, KindLine}
+use Rattle.uz_cert.proofs.Common.{Version, First, Second, Third, and_true, first_draft, lacks, expected_line, draft_after, expected_as}
+use Rattle.uz_cert.proofs.Common.{SizesFit, IsLengthIn, IsPointIn, rules_of, length_few, LastIs, Kept, IsAfterCells, EventSaid, SaidFits}
+use Rattle.uz_cert.proofs.Common.{Draft, with_said, true_not, Response}
+use Rattle.std.proofs.lemmas.List.Elements.{All-push, All-append, All-replicate}
+use Rattle.uz_schedule.specs.Limits.{most_events, rises}
 use Rattle.uz_cert.proofs.ExpectedLineLaws.{IsExpected, is_expected}
-use Rattle.uz_cert_lines.specs.Lines.{SizesFit, IsLengthIn, IsPointIn, rules_of}
-use Rattle.uz_cert_lines.proofs.Lengths.{length_few}
 use Rattle.uz_cert_laws.specs.LineWords.{least_after}
-use Rattle.uz_cert_laws.proofs.GrowingFacts.{rises_more, after_more}
-use Rattle.uz_cert.specs.Kept.{CellsKept, KindsKept, RestsKept, PointsKept}
-use Rattle.uz_cert.specs.Kept.{ScheduleKept, StatesKept, LastIs, AreCellsDue, LateLater, Kept, IsAfterCells}
-use Rattle.uz_cert.specs.Kept.{CellSaid, KindSaid, EventSaid, RunSaid, RestSaid, EntrySaid, PointSaid, SaidFits}
-use Rattle.uz_cert.specs.declared.draft.Draft.{Draft}
+use Rattle.uz_cert.specs.Kept.{CellsKept, KindsKept, RestsKept, PointsKept, ScheduleKept, StatesKept, AreCellsDue, LateLater, CellSaid}
+use Rattle.uz_cert.specs.Kept.{KindSaid, RunSaid, RestSaid, EntrySaid, PointSaid}
+use Rattle.std.proofs.{Common.◌*◌, lemmas.Nat.mul-le, lemmas.Bool.le-leb, lemmas.List.Sums.sum_by_push}
+use Rattle.uz_cert_laws.proofs.{Tests.both_true, GrowingFacts.rises_more, GrowingFacts.after_more}
+use Rattle.uz_cert_lines.specs.declared.lines.ParsedLine.TheVariants as parsed
+use Rattle.uz_cert.specs.declared.expected_line.ExpectedLine.TheVariants as expected
 
 pub product_few : (a b : ℕ) → a ≤ 65536 → b ≤ 256 → a * b ≤ 16777216
 product_few a b h k = mul-le a b 65536 256 h k
@@ -200,18 +181,19 @@ past_three n h k = absurd (omega (arith, h, k))
 not_both : (a b : ℕ) → a ≤ b → b < a → ⊥
 not_both a b h g = omega (arith, h, g)
 
+-- what stays the same in each line after the cells
+abbrev onto : Draft → Draft → Draft
+onto d e = record e { read = d.read + 1; version = d.version; sizes = d.sizes; head = d.head; cell_least = d.cell_least }
+
 -- one of the lines after the cells
-body_kept : (d e : Draft) → Kept d → IsAfterCells d → e.read ≡ d.read + 1 → e.sizes ≡ d.sizes → e.head ≡ d.head → e.cell_least ≡ d.cell_least
-    → e.version ≡ d.version → ScheduleKept e → StatesKept e → ((1 ≤ e.owed) ⊎ (length e.kinds < e.sizes.kinds) → e.fall ≡ 0) → LateLater e
-    → LastIs e.run_kind e.lines → Kept e
-body_kept d e k a r s h c v schedule states fall late run = record {
-  begun = omega (arith, r);
-  rules = ap (λ x. x.version) h ∙ (k.rules ∙ ap rules_of (sym v));
-  sizes = subst SizesFit (sym s) k.sizes;
-  stack = subst StackFits (sym h) k.stack;
-  cells =
-      subst (λ x. CellsKept x e.sizes.cells e.cell_least) (sym h)
-      (subst (λ x. CellsKept d.head x.cells e.cell_least) (sym s) (subst (CellsKept d.head d.sizes.cells) (sym c) k.cells));
+body_kept : (d e : Draft) → Kept d → IsAfterCells d → ScheduleKept (onto d e) → StatesKept (onto d e)
+    → ((1 ≤ e.owed) ⊎ (length e.kinds < d.sizes.kinds) → e.fall ≡ 0) → LateLater (onto d e) → LastIs e.run_kind e.lines → Kept (onto d e)
+body_kept d e k a schedule states fall late run = record {
+  begun = omega arith;
+  rules = k.rules;
+  sizes = k.sizes;
+  stack = k.stack;
+  cells = k.cells;
   schedule = schedule;
   states = states;
   later = record {
@@ -223,11 +205,9 @@ body_kept d e k a r s h c v schedule states fall late run = record {
   };
 }
   where
-    none_due : AreCellsDue e → ⊥
-    none_due (inl x) = let body = a.body in omega (arith, body, r, x)
-    none_due (inr x) =
-        not_both d.sizes.cells (length d.head.cells.items) a.cells
-        (subst (λ y. length d.head.cells.items < y.cells) s (subst (λ y. length y.cells.items < e.sizes.cells) h x))
+    none_due : AreCellsDue (onto d e) → ⊥
+    none_due (inl x) = let body = a.body in omega (arith, body, x)
+    none_due (inr x) = not_both d.sizes.cells (length d.head.cells.items) a.cells x
 
 -- one of the first three lines: they say sizes and head, and all else is still empty
 opening_kept : (d : Draft) (s : Sizes) (h : Head) → Kept d → d.read ≤ 3 → SizesFit s → StackFits h → h.cells.items ≡ d.head.cells.items
@@ -275,23 +255,9 @@ opening_kept d s h k o sizes stack same rules =
       };
     }
 
--- a head with other cells and another response
-same_stack : (h k : Head) → h.lo ≡ k.lo → h.hi ≡ k.hi → h.main ≡ k.main → h.handler ≡ k.handler → StackFits h → StackFits k
-same_stack h k a b c e f =
-    let low = f.low in
-    let order = f.order in
-    let high = f.high in
-    let main = f.main in
-    let handler = f.handler in
-    let room = f.room in
-    record {
-      low = omega (arith, low, a);
-      order = omega (arith, order, a, b);
-      high = omega (arith, high, b);
-      main = omega (arith, main, c);
-      handler = omega (arith, handler, e);
-      room = omega (arith, room, a, b, c, e);
-    }
+-- the stack of a head with other cells and another response
+same_stack : (h : Head) (r : Response) (cs : List Cell) → StackFits h → StackFits (record h { irq = r; cells = record { items = cs } })
+same_stack h r cs f = record { low = f.low; order = f.order; high = f.high; main = f.main; handler = f.handler; room = f.room }
 
 abbrev with_cell : Head → Cell → Head
 with_cell h c = record h { cells = record { items = h.cells.items ++ c ∷ [] } }
@@ -326,7 +292,7 @@ cell_kept d c k f =
       begun = omega arith;
       rules = k.rules;
       sizes = k.sizes;
-      stack = same_stack d.head h refl refl refl refl k.stack;
+      stack = same_stack d.head d.head.irq h.cells.items k.stack;
       cells = cells_more d.head c d.sizes.cells d.cell_least k.cells f.room f.fits f.order;
       schedule = k.schedule;
       states = no_states d.version h d.sizes d.rests d.rest_least d.entry d.points d.left no.rests no.entry no.points
@@ -349,7 +315,7 @@ kind_kept d n k a f =
     let none = events.present f.none_owed in
     let few = f.fits.few in
     let most = length_few n.clocks (length_in d.version n.clocks f.fits.clocks) in
-    body_kept d (draft_after d (parsed.Kind n)) k a refl refl refl refl refl (
+    body_kept d (draft_after d (parsed.Kind n)) k a (
       record {
         few = subst (λ es. length es + n.events ≤ most_events) (sym none) (omega (arith, few, most));
         each = events.each;
@@ -389,7 +355,7 @@ event_more d e k a f true is =
       events = [];
       event_least = 0;
     } in
-    let more : Kept next = body_kept d next k a refl refl refl refl refl (
+    let more : Kept next = body_kept d next k a (
       record {
         few = omega (arith, one);
         each = All-nil EventFits;
@@ -417,7 +383,7 @@ event_more d e k a f false is =
     let owing : 1 ≤ d.owed - 1 = omega (arith, eqb-false (d.owed - 1) 0 is) in
     let have = events.few in
     let next : Draft = record d { read = d.read + 1; owed = d.owed - 1; events = d.events ++ e ∷ []; event_least = e.clock + 1 } in
-    let more : Kept next = body_kept d next k a refl refl refl refl refl (
+    let more : Kept next = body_kept d next k a (
       record {
         few = simp length-append (omega (arith, f.owed, have));
         each = All-push EventFits d.events e events.each f.fits;
@@ -437,7 +403,7 @@ fall_kept : (d : Draft) (clock : ℕ) → Kept d → IsExpected d expected.Fall 
 unfolding draft_after
 fall_kept d clock k i some low =
     let l = k.later.late in
-    body_kept d (draft_after d (parsed.Fall clock)) k i.0 refl refl refl refl refl (k.schedule.0, k.schedule.1, low, k.schedule.3) k.states
+    body_kept d (draft_after d (parsed.Fall clock)) k i.0 (k.schedule.0, k.schedule.1, low, k.schedule.3) k.states
     (λ h. absurd (past h)) (λ e. absurd (omega (arith, e, some)), l.1, l.2, l.3, l.4) k.later.run
   where
     past : (1 ≤ d.owed) ⊎ (length d.kinds < d.sizes.kinds) → ⊥
@@ -449,7 +415,7 @@ run_kept : (d : Draft) (count kind : ℕ) → Kept d → IsExpected d expected.R
 unfolding draft_after
 run_kept d count kind k i f =
     let l = k.later in
-    body_kept d (draft_after d (parsed.Run (record { count = count; kind = kind }))) k i.0 refl refl refl refl refl (
+    body_kept d (draft_after d (parsed.Run (record { count = count; kind = kind }))) k i.0 (
       k.schedule.0,
       k.schedule.1,
       k.schedule.2,
@@ -477,7 +443,7 @@ unfolding draft_after
 rest_kept d r k i f =
     let rests = k.states.0 in
     let l = k.later in
-    body_kept d (draft_after d (parsed.Rest r)) k f.after refl refl refl refl refl k.schedule (
+    body_kept d (draft_after d (parsed.Rest r)) k f.after k.schedule (
       record {
         few = simp length-append (omega (arith, f.room));
         each = All-push (RestFits d.head d.sizes.lines d.sizes.points) d.rests r rests.each f.fits;
@@ -498,7 +464,7 @@ entry_kept : (d : Draft) (e : Entry) → Kept d → IsExpected d expected.Entry 
 unfolding draft_after
 entry_kept d e k i f =
     let l = k.later in
-    body_kept d (draft_after d (parsed.Entry e)) k f.after refl refl refl refl refl k.schedule (k.states.0, f.fits, k.states.2) (λ h. l.fall (inr h))
+    body_kept d (draft_after d (parsed.Entry e)) k f.after k.schedule (k.states.0, f.fits, k.states.2) (λ h. l.fall (inr h))
     (l.late.0, l.late.1, λ h. absurd (past h), λ g. absurd (cc g), l.late.4) l.run
   where
     past : (length d.lines < d.sizes.lines) ⊎ (length d.rests < d.sizes.rests) → ⊥
@@ -510,7 +476,7 @@ unfolding draft_after
 point_kept d p k i f =
     let points = k.states.2 in
     let l = k.later in
-    body_kept d (draft_after d (parsed.Point p)) k f.after refl refl refl refl refl k.schedule (
+    body_kept d (draft_after d (parsed.Point p)) k f.after k.schedule (
       k.states.0,
       k.states.1,
       record {
@@ -535,7 +501,7 @@ end_kept : (d : Draft) → Kept d → IsExpected d expected.End → Kept (draft_
 unfolding draft_after
 end_kept d k i =
     let l = k.later in
-    body_kept d (draft_after d parsed.End) k i.0.after refl refl refl refl refl k.schedule k.states (λ h. l.fall (inr h))
+    body_kept d (draft_after d parsed.End) k i.0.after k.schedule k.states (λ h. l.fall (inr h))
     (l.late.0, l.late.1, l.late.2, l.late.3, λ h. absurd (not_both d.sizes.points (length d.points) i.1 h)) l.run
 
 kept_where : (d : Draft) (s : ParsedLine) → Kept d → IsExpected d (expected_as s) → SaidFits d s → Kept (draft_after d s)
@@ -543,7 +509,7 @@ unfolding draft_after
 kept_where d (parsed.Size s) k i f = opening_kept d s d.head k f.0 f.1 k.stack refl k.rules
 kept_where d (parsed.Irq r) k i f =
     let h : Head = record d.head { irq = r } in
-    opening_kept d d.sizes h k f k.sizes (same_stack d.head h refl refl refl refl k.stack) refl k.rules
+    opening_kept d d.sizes h k f k.sizes (same_stack d.head r d.head.cells.items k.stack) refl k.rules
 kept_where d (parsed.Stack s) k i f =
     opening_kept d d.sizes (record d.head { lo = s.lo; hi = s.hi; main = s.main; handler = s.handler }) k f.0 k.sizes f.1 refl k.rules
 kept_where d (parsed.Cell c) k i f = cell_kept d c k f

@@ -1,9 +1,6 @@
+pub mod Common
 pub mod ExpectedLineLaws
-pub mod FitLaws
 pub mod KeptLaws
-pub mod LineEnds
-pub mod LineLimits
-pub mod LineOrder
 pub mod Lines
 pub mod LinesSoFar
 pub mod NextLine

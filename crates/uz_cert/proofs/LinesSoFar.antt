@@ -1,157 +1,157 @@
 -- The lines that were read are those that are spelled of what was read: each line that is due adds its own.
-use Rattle.std.proofs.Common.{◌≡◌, inl, inr, ℕ, zero, suc, ◌+◌, ◌-◌, ◌<◌, ◌≤◌, Bool, true, false, ◌&&◌, cond, eqb, List, [], ◌∷◌, ◌++◌}
-use Rattle.std.proofs.Common.{length, map, take, replicate, codes, decimal, refl, sym, ◌∙◌, ap, append_assoc, append-nil, zero-add, arith}
-use Rattle.std.proofs.Common.{length-append}
-use Rattle.std.specs.Prelude.{Option, Some, None}
-use Rattle.std.proofs.lemmas.List.{map-append}
-use Rattle.uz_schedule.specs.Limits.{is_length, clocks_below, lengths_fit}
-use Rattle.uz_schedule.specs.declared.header.Cell.{Cell}
-use Rattle.uz_schedule.specs.declared.lines.Event.{Event}
-use Rattle.uz_schedule.specs.declared.states.Entry.{Entry}
-use Rattle.uz_cert_lines.specs.declared.lines.ParsedLine.{ParsedLine}
-use Rattle.uz_cert_lines.specs.declared.lines.ParsedLine.TheVariants as parsed
-use Rattle.uz_cert_lines.specs.declared.version.Version.{Version}
+use Rattle.uz_cert_laws.proofs.Tests.{both_of}
+use Rattle.uz_cert.proofs.Common.{◌≡◌, inl, inr, ℕ, zero, suc, ◌+◌, ◌-◌, ◌<◌, ◌≤◌, Bool, true, false, ◌&&◌, cond, eqb, List, [], ◌∷◌}
+use Rattle.uz_cert.proofs.Common.{◌++◌, length, map, decimal, refl, sym, ◌∙◌, ap, append_assoc, append-nil, subst, zero-add, arith}
+use Rattle.uz_cert.proofs.Common.{length-append, Option, Some, None, ⊤, map-append, is_length, clocks_below, lengths_fit, Cell, Event}
+use Rattle.uz_cert.proofs.Common.{Entry, ParsedLine, Version, and_true, not_number, line_of, runs_of, lacks, draft_after, Kept, SaidFits}
+use Rattle.uz_cert.proofs.Common.{EventSaid, cert_from, KindLine, scanline, Cert, expected_as, Draft}
+use Rattle.std.proofs.Common.{take, codes}
 use Rattle.uz_cert_laws.specs.LineWords.{sizes_words, response_words, stack_line_words}
-use Rattle.uz_cert_laws.proofs.Tests.{and_true, so, else_so, number_is, not_number}
-use Rattle.uz_cert_writer.specs.Spelling.{line_of, cell_words, kind_words, event_words, run_words, rest_words, entry_words, point_words}
-use Rattle.uz_cert_writer.specs.Spelling.{kinds_then, runs_of, size_words, irq_words, stack_words, schedule_lines, state_lines, last_lines}
-use Rattle.uz_cert.specs.Drafts.{lacks, draft_after}
-use Rattle.uz_cert.specs.Kept.{LateLater, Later, Kept, SaidFits, EventSaid, CellSaid}
-use Rattle.uz_cert.specs.Reading.{cert_from}
-use Rattle.uz_cert_lines.specs.declared.lines.KindLine.{KindLine}
-use Rattle.uz_cert_lines.specs.declared.lines.Sizes.{Sizes}
-use Rattle.uz_schedule.specs.Schedule.{scanline}
-use Rattle.uz_schedule.specs.declared.certificate.Cert.{Cert}
-use Rattle.uz_cert.specs.SaidLines.{expected_as}
-use Rattle.uz_cert.specs.declared.draft.Draft.{Draft}
-use Rattle.uz_cert.proofs.ExpectedLineLaws.{IsExpected, IsWhole}
+use Rattle.uz_cert_laws.proofs.Tests.{so, else_so, number_is}
+use Rattle.uz_cert_writer.specs.Spelling.{cell_words, kind_words, event_words, run_words, rest_words, entry_words, point_words}
+use Rattle.uz_cert_writer.specs.Spelling.{kinds_then, size_words, irq_words, stack_words, schedule_lines, state_lines}
+use Rattle.uz_cert.specs.Kept.{Later}
 use Rattle.uz_cert.proofs.SpelledText.{spelled, with_event, with_last, event_next, last_next}
-use Rattle.uz_cert.proofs.Runs.{runs_more}
-use Rattle.uz_cert.proofs.LineOrder.{not_equal}
-use Rattle.uz_cert.proofs.KeptLaws.{none}
+use Rattle.uz_cert.proofs.ExpectedLineLaws.{not_equal, IsExpected, IsWhole}
+use Rattle.uz_cert.proofs.{KeptLaws.none, Runs.runs_more}
+use Rattle.uz_cert_lines.specs.declared.lines.ParsedLine.TheVariants as parsed
 
 abbrev Lines : Type 0
 Lines = List (List ℕ)
 
 -- the lines of each section
 
-abbrev pub event_lines : List Event → Lines
+abbrev event_lines : List Event → Lines
 event_lines es = map (λ e. line_of (event_words e)) es
 
 -- a kind of line, and its events
-abbrev pub kind_lines : Version → ℕ → List Event → ℕ → Lines
+abbrev kind_lines : Version → ℕ → List Event → ℕ → Lines
 kind_lines v count es clocks = line_of (kind_words v count clocks) ∷ event_lines es
 
-abbrev pub begun_lines : Version → ℕ → List Event → ℕ → Lines
+abbrev begun_lines : Version → ℕ → List Event → ℕ → Lines
 begun_lines v owed es clocks = cond (eqb owed 0) [] (kind_lines v (length es + owed) es clocks)
 
-abbrev pub fall_line : ℕ → Lines
+abbrev fall_line : ℕ → Lines
 fall_line n = cond (eqb n 0) [] (line_of (codes "fall" ∷ decimal n ∷ []) ∷ [])
 
-abbrev pub entry_line : List Cell → Option Entry → Lines
+abbrev entry_line : List Cell → Option Entry → Lines
 entry_line cells None = []
 entry_line cells (Some e) = line_of (entry_words cells e) ∷ []
 
-abbrev pub end_line : Bool → Lines
+abbrev end_line : Bool → Lines
 end_line ended = cond ended (codes "end" ∷ []) []
 
--- the lines from each section on
+-- the sections from each on
 
-abbrev pub from_points : List Cell → Draft → Lines
-from_points cells d = map (λ p. line_of (point_words cells p)) d.points ++ end_line d.ended
+abbrev from_points : List Cell → Draft → List Lines
+from_points cells d = map (λ p. line_of (point_words cells p)) d.points ∷ end_line d.ended ∷ []
 
-abbrev pub from_entry : List Cell → Draft → Lines
-from_entry cells d = entry_line cells d.entry ++ from_points cells d
+abbrev from_entry : List Cell → Draft → List Lines
+from_entry cells d = entry_line cells d.entry ∷ from_points cells d
 
-abbrev pub from_rests : List Cell → Draft → Lines
-from_rests cells d = map (λ r. line_of (rest_words r)) d.rests ++ from_entry cells d
+abbrev from_rests : List Cell → Draft → List Lines
+from_rests cells d = map (λ r. line_of (rest_words r)) d.rests ∷ from_entry cells d
 
-abbrev pub from_runs : List Cell → Draft → Lines
-from_runs cells d = map (λ r. line_of (run_words r)) (runs_of d.lines) ++ from_rests cells d
+abbrev from_runs : List Cell → Draft → List Lines
+from_runs cells d = map (λ r. line_of (run_words r)) (runs_of d.lines) ∷ from_rests cells d
 
-abbrev pub from_fall : List Cell → Draft → Lines
-from_fall cells d = fall_line d.fall ++ from_runs cells d
+abbrev from_fall : List Cell → Draft → List Lines
+from_fall cells d = fall_line d.fall ∷ from_runs cells d
 
-abbrev pub from_begun : List Cell → Draft → Lines
-from_begun cells d = begun_lines d.version d.owed d.events d.clocks ++ from_fall cells d
+-- the kinds so far, with the one that is begun
+abbrev kinds_so_far : Draft → Lines
+kinds_so_far d = kinds_then d.version d.kinds d.lengths [] ++ begun_lines d.version d.owed d.events d.clocks
 
-abbrev pub from_kinds : List Cell → Draft → Lines
-from_kinds cells d = kinds_then d.version d.kinds d.lengths [] ++ from_begun cells d
+abbrev from_kinds : List Cell → Draft → List Lines
+from_kinds cells d = kinds_so_far d ∷ from_fall cells d
 
-abbrev pub from_cells : Draft → Lines
-from_cells d = map (λ c. line_of (cell_words c)) d.head.cells.items ++ from_kinds d.head.cells.items d
+abbrev from_cells : Draft → List Lines
+from_cells d = map (λ c. line_of (cell_words c)) d.head.cells.items ∷ from_kinds d.head.cells.items d
 
-abbrev pub opening : Draft → Lines
+abbrev opening : Draft → Lines
 opening d =
     line_of (sizes_words d.sizes) ∷ line_of (response_words d.head.irq)
     ∷ line_of (stack_line_words (record { lo = d.head.lo; hi = d.head.hi; main = d.head.main; handler = d.head.handler })) ∷ []
 
+abbrev sections : Draft → List Lines
+sections d = take (d.read - 1) (opening d) ∷ from_cells d
+
+abbrev flat : List Lines → Lines
+flat [] = []
+flat (xs ∷ rest) = xs ++ flat rest
+
 -- all lines after the head that were read
 abbrev pub so_far : Draft → Lines
-so_far d = take (d.read - 1) (opening d) ++ from_cells d
+so_far d = flat (sections d)
 
 -- sections that are still empty
 
-no_lines : (xs ys : Lines) → xs ≡ [] → ys ≡ [] → xs ++ ys ≡ []
-no_lines xs ys e f = ap (λ t. t ++ ys) e ∙ f
+abbrev AreEmpty : List Lines → Type 0
+AreEmpty [] = ⊤
+AreEmpty (xs ∷ rest) = (xs ≡ []) × AreEmpty rest
+
+flat_empty : (xs : List Lines) → AreEmpty xs → flat xs ≡ []
+flat_empty [] h = refl
+flat_empty (xs ∷ rest) h = ap (λ t. t ++ flat rest) h.0 ∙ flat_empty rest h.1
 
 module _ (d : Draft) (k : Kept d) (cells : List Cell) where
-  abbrev later : LateLater d
-  later = k.later.late
+  no_end : length d.points < d.sizes.points → AreEmpty (end_line d.ended ∷ [])
+  no_end h = (ap end_line (k.later.late.4 h), tt)
 
-  no_end : length d.points < d.sizes.points → end_line d.ended ≡ []
-  no_end h = ap end_line (later.4 h)
-
-  no_points : d.entry ≡ None → from_points cells d ≡ []
+  no_points : d.entry ≡ None → AreEmpty (from_points cells d)
   no_points e =
-      let none_yet = later.3 e in
-      no_lines (map (λ p. line_of (point_words cells p)) d.points) (end_line d.ended)
-      (ap (λ ps. map (λ p. line_of (point_words cells p)) ps) none_yet)
-      (no_end (none d.points d.sizes.points none_yet k.sizes.points_some))
+      let none_yet = k.later.late.3 e in
+      (ap (map (λ p. line_of (point_words cells p))) none_yet, no_end (none d.points d.sizes.points none_yet k.sizes.points_some))
 
-  no_entry : d.entry ≡ None → from_entry cells d ≡ []
-  no_entry e = no_lines (entry_line cells d.entry) (from_points cells d) (ap (entry_line cells) e) (no_points e)
+  no_entry : d.entry ≡ None → AreEmpty (from_entry cells d)
+  no_entry e = (ap (entry_line cells) e, no_points e)
 
-  no_rests : length d.lines < d.sizes.lines → from_rests cells d ≡ []
-  no_rests h =
-      no_lines (map (λ r. line_of (rest_words r)) d.rests) (from_entry cells d) (ap (λ rs. map (λ r. line_of (rest_words r)) rs) (later.1 h))
-      (no_entry (later.2 (inl h)))
+  no_rests : length d.lines < d.sizes.lines → AreEmpty (from_rests cells d)
+  no_rests h = (ap (map (λ r. line_of (rest_words r))) (k.later.late.1 h), no_entry (k.later.late.2 (inl h)))
 
-  no_runs : d.fall ≡ 0 → from_runs cells d ≡ []
+  no_runs : d.fall ≡ 0 → AreEmpty (from_runs cells d)
   no_runs e =
-      let none_yet = later.0 e in
-      no_lines (map (λ r. line_of (run_words r)) (runs_of d.lines)) (from_rests cells d)
-      (ap (λ ls. map (λ r. line_of (run_words r)) (runs_of ls)) none_yet)
-      (no_rests (none d.lines d.sizes.lines none_yet k.sizes.lines_some))
+      let none_yet = k.later.late.0 e in (
+        ap (λ ls. map (λ r. line_of (run_words r)) (runs_of ls)) none_yet,
+        no_rests (none d.lines d.sizes.lines none_yet k.sizes.lines_some),
+      )
 
-  no_fall : d.fall ≡ 0 → from_fall cells d ≡ []
-  no_fall e = no_lines (fall_line d.fall) (from_runs cells d) (ap fall_line e) (no_runs e)
+  no_fall : d.fall ≡ 0 → AreEmpty (from_fall cells d)
+  no_fall e = (ap fall_line e, no_runs e)
 
-  no_begun : d.owed ≡ 0 → d.fall ≡ 0 → from_begun cells d ≡ []
-  no_begun o e =
-      no_lines (begun_lines d.version d.owed d.events d.clocks) (from_fall cells d)
-      (ap (λ n. begun_lines d.version n d.events d.clocks) o) (no_fall e)
+  no_kinds : (d.kinds ≡ []) × (d.lengths ≡ []) × (d.owed ≡ 0) → d.fall ≡ 0 → AreEmpty (from_kinds cells d)
+  no_kinds h e = (
+    ap (λ ks. kinds_then d.version ks d.lengths [] ++ begun_lines d.version d.owed d.events d.clocks) h.0
+        ∙ ap (λ n. begun_lines d.version n d.events d.clocks) h.2,
+    no_fall e,
+  )
 
-  no_kinds : d.kinds ≡ [] → d.lengths ≡ [] → d.owed ≡ 0 → d.fall ≡ 0 → from_kinds cells d ≡ []
-  no_kinds n m o e =
-      no_lines (kinds_then d.version d.kinds d.lengths []) (from_begun cells d)
-      (ap (λ ks. kinds_then d.version ks d.lengths []) n) (no_begun o e)
+no_cells : (d : Draft) → Kept d → d.read ≤ 3 → AreEmpty (from_cells d)
+no_cells d k o = (
+  ap (map (λ c. line_of (cell_words c))) (k.later.cells o),
+  no_kinds d k d.head.cells.items (k.later.kinds (inl o)) (k.later.fall (inl (inl o))),
+)
 
-no_cells : (d : Draft) → Kept d → d.read ≤ 3 → from_cells d ≡ []
-no_cells d k o =
-    let empty = k.later.kinds (inl o) in
-    no_lines (map (λ c. line_of (cell_words c)) d.head.cells.items) (from_kinds d.head.cells.items d)
-    (ap (λ cs. map (λ c. line_of (cell_words c)) cs) (k.later.cells o))
-    (no_kinds d k d.head.cells.items empty.0 empty.1 empty.2 (k.later.fall (inl (inl o))))
+-- one line more
 
--- one line more, behind others
+-- at the end of the section at this place, after which all are empty
+abbrev Grows : ℕ → List ℕ → List Lines → List Lines → Type 0
+Grows n w [] ys = ⊥
+Grows n w (x ∷ xs) [] = ⊥
+Grows zero w (x ∷ xs) (y ∷ ys) = (y ≡ x ++ w ∷ []) × AreEmpty xs × AreEmpty ys
+Grows (suc n) w (x ∷ xs) (y ∷ ys) = (y ≡ x) × Grows n w xs ys
 
-behind : (front xs ys : Lines) (w : List ℕ) → ys ≡ xs ++ w ∷ [] → front ++ ys ≡ (front ++ xs) ++ w ∷ []
-behind front xs ys w e = ap (λ t. front ++ t) e ∙ sym (append_assoc front xs (w ∷ []))
+with_rest : {A B : Type 0} → A → B → A × B × B
+with_rest a b = (a, b, b)
 
-last_in : (xs ys tail : Lines) (w : List ℕ) → ys ≡ xs ++ w ∷ [] → tail ≡ [] → ys ++ tail ≡ (xs ++ tail) ++ w ∷ []
-last_in xs ys tail w e n =
-    ap (λ t. ys ++ t) n ∙ append-nil ys ∙ e ∙ ap (λ t. t ++ w ∷ []) (sym (append-nil xs)) ∙ ap (λ t. (xs ++ t) ++ w ∷ []) (sym n)
+grow : (n : ℕ) (w : List ℕ) (xs ys : List Lines) → Grows n w xs ys → flat ys ≡ flat xs ++ w ∷ []
+grow n w [] ys h = absurd h
+grow n w (x ∷ xs) [] h = absurd h
+grow zero w (x ∷ xs) (y ∷ ys) h =
+    ap (λ t. y ++ t) (flat_empty ys h.2) ∙ append-nil y ∙ h.0
+    ∙ ap (λ t. t ++ w ∷ []) (sym (ap (λ t. x ++ t) (flat_empty xs h.1) ∙ append-nil x))
+grow (suc n) w (x ∷ xs) (y ∷ ys) h =
+    ap (λ t. t ++ flat ys) h.0 ∙ ap (λ t. x ++ t) (grow n w xs ys h.1) ∙ sym (append_assoc x (flat xs) (w ∷ []))
 
 map_last : {A : Type 0} (f : A → List ℕ) (xs : List A) (x : A) → map f (xs ++ x ∷ []) ≡ map f xs ++ f x ∷ []
 map_last f xs x = map-append f xs (x ∷ [])
@@ -188,30 +188,10 @@ open_take n a b c h = all (n - 1) (omega (arith, h))
     all (suc (suc (suc zero))) g = refl
     all (suc (suc (suc (suc m)))) g = refl
 
-body_more : (d e : Draft) (w : List ℕ) → 4 ≤ d.read → 4 ≤ e.read → opening e ≡ opening d → from_cells e ≡ from_cells d ++ w ∷ []
-    → so_far e ≡ so_far d ++ w ∷ []
-body_more d e w b c o more =
-    ap (λ t. t ++ from_cells e) (whole e c ∙ o)
-    ∙ behind (opening d) (from_cells d) (from_cells e) w more
-    ∙ ap (λ t. (t ++ from_cells d) ++ w ∷ []) (sym (whole d b))
-  where
-    whole : (x : Draft) → 4 ≤ x.read → take (x.read - 1) (opening x) ≡ opening x
-    whole x h = open_take x.read _ _ _ h
+open_more : (d : Draft) → 4 ≤ d.read → take (d.read + 1 - 1) (opening d) ≡ take (d.read - 1) (opening d)
+open_more d h = open_take (d.read + 1) _ _ _ (omega (arith, h)) ∙ sym (open_take d.read _ _ _ h)
 
--- each line adds its own: in the opening
-
-opened : (d e : Draft) (w : List ℕ) → Kept d → d.read ≤ 3 → e.read ≡ d.read + 1 → from_cells e ≡ from_cells d
-    → take (d.read + 1 - 1) (opening e) ≡ take (d.read - 1) (opening d) ++ w ∷ [] → so_far e ≡ so_far d ++ w ∷ []
-opened d e w k o r c t =
-    ap (λ xs. take (e.read - 1) (opening e) ++ xs) c
-    ∙ last_in (take (d.read - 1) (opening d)) (take (e.read - 1) (opening e)) (from_cells d) w (ap (λ n. take (n - 1) (opening e)) r ∙ t)
-    (no_cells d k o)
-
--- in the sections
-
-in_cells : (d e : Draft) (w : List ℕ) → 4 ≤ d.read → e.read ≡ d.read + 1 → opening e ≡ opening d → from_cells e ≡ from_cells d ++ w ∷ []
-    → so_far e ≡ so_far d ++ w ∷ []
-in_cells d e w b r o h = body_more d e w b (omega (arith, r, b)) o h
+-- each line adds its own
 
 module _ (d : Draft) (k : Kept d) where
   abbrev l : Later d
@@ -220,45 +200,11 @@ module _ (d : Draft) (k : Kept d) where
   abbrev cs : List Cell
   cs = d.head.cells.items
 
-  abbrev cell_lines : Lines
-  cell_lines = map (λ c. line_of (cell_words c)) cs
-
-  abbrev kinds_so_far : Lines
-  kinds_so_far = kinds_then d.version d.kinds d.lengths []
+  abbrev kinds_closed : Lines
+  kinds_closed = kinds_then d.version d.kinds d.lengths []
 
   abbrev begun_so_far : Lines
   begun_so_far = begun_lines d.version d.owed d.events d.clocks
-
-  in_begun : (ys : Lines) (w : List ℕ) → ys ≡ from_begun cs d ++ w ∷ [] → cell_lines ++ (kinds_so_far ++ ys) ≡ from_cells d ++ w ∷ []
-  in_begun ys w e =
-      behind cell_lines (from_kinds cs d) (kinds_so_far ++ ys) w (behind kinds_so_far (from_begun cs d) ys w e)
-
-  in_fall : (ys : Lines) (w : List ℕ) → ys ≡ from_fall cs d ++ w ∷ []
-      → cell_lines ++ (kinds_so_far ++ (begun_so_far ++ ys)) ≡ from_cells d ++ w ∷ []
-  in_fall ys w e = in_begun (begun_so_far ++ ys) w (behind begun_so_far (from_fall cs d) ys w e)
-
-  in_runs : (ys : Lines) (w : List ℕ) → ys ≡ from_runs cs d ++ w ∷ []
-      → cell_lines ++ (kinds_so_far ++ (begun_so_far ++ (fall_line d.fall ++ ys))) ≡ from_cells d ++ w ∷ []
-  in_runs ys w e = in_fall (fall_line d.fall ++ ys) w (behind (fall_line d.fall) (from_runs cs d) ys w e)
-
-  abbrev run_lines : Lines
-  run_lines = map (λ r. line_of (run_words r)) (runs_of d.lines)
-
-  in_rests : (ys : Lines) (w : List ℕ) → ys ≡ from_rests cs d ++ w ∷ []
-      → cell_lines ++ (kinds_so_far ++ (begun_so_far ++ (fall_line d.fall ++ (run_lines ++ ys)))) ≡ from_cells d ++ w ∷ []
-  in_rests ys w e = in_runs (run_lines ++ ys) w (behind run_lines (from_rests cs d) ys w e)
-
-  abbrev rest_lines : Lines
-  rest_lines = map (λ r. line_of (rest_words r)) d.rests
-
-  in_entry : (ys : Lines) (w : List ℕ) → ys ≡ from_entry cs d ++ w ∷ []
-      → cell_lines ++ (kinds_so_far ++ (begun_so_far ++ (fall_line d.fall ++ (run_lines ++ (rest_lines ++ ys))))) ≡ from_cells d ++ w ∷ []
-  in_entry ys w e = in_rests (rest_lines ++ ys) w (behind rest_lines (from_entry cs d) ys w e)
-
-  in_points : (ys : Lines) (w : List ℕ) → ys ≡ from_points cs d ++ w ∷ []
-      → cell_lines ++ (kinds_so_far ++ (begun_so_far ++ (fall_line d.fall ++ (run_lines ++ (rest_lines ++ (entry_line cs d.entry ++ ys))))))
-      ≡ from_cells d ++ w ∷ []
-  in_points ys w e = in_entry (entry_line cs d.entry ++ ys) w (behind (entry_line cs d.entry) (from_points cs d) ys w e)
 
   abbrev kind_line : KindLine → List ℕ
   kind_line n = line_of (kind_words d.version n.events n.clocks)
@@ -295,13 +241,13 @@ module _ (d : Draft) (k : Kept d) where
   event_adds e f false is =
       let longer = one_longer e in
       let some = f.owed in
+      let empty = no_fall d k cs (l.fall (inr (inl f.owed))) in
       ap so_far (event_next d e is)
-      ∙ in_cells d (with_event d e) (event_line e) f.body refl refl
-      (in_begun (from_begun cs (with_event d e)) (event_line e)
-      (last_in begun_so_far (begun_lines d.version (d.owed - 1) (with e) d.clocks) (from_fall cs d) (event_line e)
+      ∙ grow 2 (event_line e) (sections d) (sections (with_event d e))
+      (both_of (open_more d f.body) (both_of refl (with_rest (ap (λ t. kinds_closed ++ t)
       (else_so (eqb (d.owed - 1) 0) [] (kind_lines d.version (length (with e) + (d.owed - 1)) (with e) d.clocks) is
       ∙ begun_with e (length (with e) + (d.owed - 1)) f.owed (omega (arith, longer, some)))
-      (no_fall d k cs (l.fall (inr (inl f.owed))))))
+      ∙ sym (append_assoc kinds_closed begun_so_far (event_line e ∷ []))) empty)))
   event_adds e f true is =
       let longer = one_longer e in
       let some = f.owed in
@@ -309,28 +255,20 @@ module _ (d : Draft) (k : Kept d) where
       let empty = no_fall d k cs (l.fall (inr (inl f.owed))) in
       let kinds = kinds_then d.version (d.kinds ++ with e ∷ []) (d.lengths ++ d.clocks ∷ []) [] in
       ap so_far (last_next d e is)
-      ∙ in_cells d (with_last d e) (event_line e) f.body refl refl
-      (behind cell_lines (from_kinds cs d) (from_kinds cs (with_last d e)) (event_line e)
-      (ap (λ t. kinds ++ t) (no_lines (begun_lines d.version (d.owed - 1) [] scanline) (from_fall cs d)
-      (so (eqb (d.owed - 1) 0) [] (kind_lines d.version (length {A = Event} [] + (d.owed - 1)) [] scanline) is) empty)
+      ∙ grow 2 (event_line e) (sections d) (sections (with_last d e))
+      (both_of (open_more d f.body) (both_of refl (with_rest (ap (λ t. kinds ++ t)
+      (so (eqb (d.owed - 1) 0) [] (kind_lines d.version (length {A = Event} [] + (d.owed - 1)) [] scanline) is)
       ∙ append-nil kinds
       ∙ kinds_last d.version d.kinds d.lengths (with e) d.clocks k.schedule.1.fit
-      ∙ ap (λ t. kinds_so_far ++ t) (begun_with e (length (with e)) f.owed (omega (arith, longer, last, some)))
-      ∙ behind kinds_so_far begun_so_far (begun_so_far ++ event_line e ∷ []) (event_line e) refl
-      ∙ ap (λ t. (kinds_so_far ++ t) ++ event_line e ∷ []) (sym (ap (λ t. begun_so_far ++ t) empty ∙ append-nil begun_so_far))))
+      ∙ ap (λ t. kinds_closed ++ t) (begun_with e (length (with e)) f.owed (omega (arith, longer, last, some)))
+      ∙ sym (append_assoc kinds_closed begun_so_far (event_line e ∷ []))) empty)))
 
-  cell_adds : (c : Cell) → CellSaid d c → so_far (draft_after d (parsed.Cell c)) ≡ so_far d ++ line_of (cell_words c) ∷ []
-  unfolding draft_after
-  cell_adds c f =
-      let empty = l.kinds (inr f.room) in
-      let fall = l.fall (inl (inr f.room)) in
-      let more = map (λ x. line_of (cell_words x)) (cs ++ c ∷ []) in
-      in_cells d (draft_after d (parsed.Cell c)) (line_of (cell_words c)) f.body refl refl
-      (ap (λ t. more ++ t) (no_kinds d k (cs ++ c ∷ []) empty.0 empty.1 empty.2 fall)
-      ∙ append-nil more
-      ∙ map_last (λ x. line_of (cell_words x)) cs c
-      ∙ ap (λ t. t ++ line_of (cell_words c) ∷ [])
-      (sym (ap (λ t. cell_lines ++ t) (no_kinds d k cs empty.0 empty.1 empty.2 fall) ∙ append-nil cell_lines)))
+  -- the next line of the opening, which is empty so far
+  opened : (e : Draft) (w : List ℕ) → d.read ≤ 3 → e.read ≡ d.read + 1 → from_cells e ≡ from_cells d
+      → take (d.read + 1 - 1) (opening e) ≡ take (d.read - 1) (opening d) ++ w ∷ [] → so_far e ≡ so_far d ++ w ∷ []
+  opened e w o r c t =
+      let empty = no_cells d k o in
+      grow 0 w (sections d) (sections e) (ap (λ n. take (n - 1) (opening e)) r ∙ t, empty, subst AreEmpty (sym c) empty)
 
   lacks_none : (o : Option Entry) → lacks o ≡ true → o ≡ None
   lacks_none None e = refl
@@ -340,65 +278,63 @@ module _ (d : Draft) (k : Kept d) where
   unfolding draft_after
   so_far_after (parsed.Size s) i f =
       let e = draft_after d (parsed.Size s) in
-      opened d e (spelled d.version d.head (parsed.Size s)) k f.0 refl refl
+      opened e (spelled d.version d.head (parsed.Size s)) f.0 refl refl
       (ap (λ n. take (n + 1 - 1) (opening e)) i
       ∙ ap (λ n. take (n - 1) (opening d) ++ spelled d.version d.head (parsed.Size s) ∷ []) (sym i))
   so_far_after (parsed.Irq r) i f =
       let e = draft_after d (parsed.Irq r) in
-      opened d e (spelled d.version d.head (parsed.Irq r)) k f refl refl
+      opened e (spelled d.version d.head (parsed.Irq r)) f refl refl
       (ap (λ n. take (n + 1 - 1) (opening e)) i
       ∙ ap (λ n. take (n - 1) (opening d) ++ spelled d.version d.head (parsed.Irq r) ∷ []) (sym i))
   so_far_after (parsed.Stack s) i f =
       let e = draft_after d (parsed.Stack s) in
-      opened d e (spelled d.version d.head (parsed.Stack s)) k f.0 refl refl
+      opened e (spelled d.version d.head (parsed.Stack s)) f.0 refl refl
       (ap (λ n. take (n + 1 - 1) (opening e)) i
       ∙ ap (λ n. take (n - 1) (opening d) ++ spelled d.version d.head (parsed.Stack s) ∷ []) (sym i))
-  so_far_after (parsed.Cell c) i f = cell_adds c f
+  so_far_after (parsed.Cell c) i f =
+      let empty = l.kinds (inr f.room) in
+      let fall = l.fall (inl (inr f.room)) in
+      grow 1 (line_of (cell_words c)) (sections d) (sections (draft_after d (parsed.Cell c)))
+      (open_more d f.body, (map_last (λ x. line_of (cell_words x)) cs c, no_kinds d k cs empty fall, no_kinds d k (cs ++ c ∷ []) empty fall))
   so_far_after (parsed.Kind n) i f =
-      in_cells d (draft_after d (parsed.Kind n)) (kind_line n) f.body refl refl
-      (in_begun (from_begun cs (draft_after d (parsed.Kind n))) (kind_line n)
-      (last_in begun_so_far (begun_lines d.version n.events d.events n.clocks) (from_fall cs d) (kind_line n)
-      (begin_kind n f.none_owed f.fits.some)
-      (no_fall d k cs (l.fall (inr (inr f.room))))))
+      let empty = no_fall d k cs (l.fall (inr (inr f.room))) in
+      grow 2 (kind_line n) (sections d) (sections (draft_after d (parsed.Kind n)))
+      (both_of (open_more d f.body) (both_of refl (with_rest (ap (λ t. kinds_closed ++ t) (begin_kind n f.none_owed f.fits.some)
+      ∙ sym (append_assoc kinds_closed begun_so_far (kind_line n ∷ []))) empty)))
   so_far_after (parsed.Event e) i f = event_adds e f (eqb (d.owed - 1) 0) refl
   so_far_after (parsed.Fall n) i f =
       let w = line_of (codes "fall" ∷ decimal n ∷ []) in
-      in_cells d (draft_after d (parsed.Fall n)) w f.0 refl refl
-      (in_fall (from_fall cs (draft_after d (parsed.Fall n))) w
-      (last_in (fall_line d.fall) (fall_line n) (from_runs cs d) w
-      (else_so (eqb n 0) [] (w ∷ []) (not_equal n 0 f.1) ∙ ap (λ m. fall_line m ++ w ∷ []) (sym i.3))
-      (no_runs d k cs i.3)))
+      let empty = no_runs d k cs i.3 in
+      grow 3 w (sections d) (sections (draft_after d (parsed.Fall n)))
+      (both_of (open_more d f.0) (both_of refl (both_of refl (with_rest (else_so (eqb n 0) [] (w ∷ []) (not_equal n 0 f.1)
+      ∙ ap (λ m. fall_line m ++ w ∷ []) (sym i.3)) empty))))
   so_far_after (parsed.Run r) i f =
-      let w = line_of (run_words (r.count, r.kind)) in
-      in_cells d (draft_after d (parsed.Run r)) w f.body refl refl
-      (in_runs (from_runs cs (draft_after d (parsed.Run r))) w
-      (last_in run_lines (map (λ x. line_of (run_words x)) (runs_of (d.lines ++ replicate r.count r.kind))) (from_rests cs d) w
-      (ap (map (λ x. line_of (run_words x))) (runs_more d.run_kind r.kind d.lines r.count l.run f.other f.some)
-      ∙ map_last (λ x. line_of (run_words x)) (runs_of d.lines) (r.count, r.kind))
-      (no_rests d k cs i.2)))
+      let empty = no_rests d k cs i.2 in
+      grow 4 (line_of (run_words (r.count, r.kind))) (sections d) (sections (draft_after d (parsed.Run r)))
+      (both_of (open_more d f.body) (both_of refl (both_of refl (both_of refl (with_rest (ap (map (λ x. line_of (run_words x)))
+      (runs_more d.run_kind r.kind d.lines r.count l.run f.other f.some)
+      ∙ map_last (λ x. line_of (run_words x)) (runs_of d.lines) (r.count, r.kind)) empty)))))
   so_far_after (parsed.Rest r) i f =
-      in_cells d (draft_after d (parsed.Rest r)) (line_of (rest_words r)) f.after.body refl refl
-      (in_rests (from_rests cs (draft_after d (parsed.Rest r))) (line_of (rest_words r))
-      (last_in rest_lines (map (λ x. line_of (rest_words x)) (d.rests ++ r ∷ [])) (from_entry cs d) (line_of (rest_words r))
-      (map_last (λ x. line_of (rest_words x)) d.rests r) (no_entry d k cs (l.late.2 (inr f.room)))))
+      let empty = no_entry d k cs (l.late.2 (inr f.room)) in
+      grow 5 (line_of (rest_words r)) (sections d) (sections (draft_after d (parsed.Rest r)))
+      (both_of (open_more d f.after.body) (both_of refl (both_of refl (both_of refl (both_of refl
+      (with_rest (map_last (λ x. line_of (rest_words x)) d.rests r) empty))))))
   so_far_after (parsed.Entry e) i f =
-      let w = line_of (entry_words cs e) in
       let none_yet = lacks_none d.entry i.2 in
-      in_cells d (draft_after d (parsed.Entry e)) w f.after.body refl refl
-      (in_entry (from_entry cs (draft_after d (parsed.Entry e))) w
-      (last_in (entry_line cs d.entry) (w ∷ []) (from_points cs d) w (ap (λ o. entry_line cs o ++ w ∷ []) (sym none_yet))
-      (no_points d k cs none_yet)))
+      let empty = no_points d k cs none_yet in
+      let w = line_of (entry_words cs e) in
+      grow 6 w (sections d) (sections (draft_after d (parsed.Entry e)))
+      (both_of (open_more d f.after.body) (both_of refl (both_of refl (both_of refl (both_of refl (both_of refl
+      (with_rest (ap (λ o. entry_line cs o ++ w ∷ []) (sym none_yet)) empty)))))))
   so_far_after (parsed.Point p) i f =
-      let w = line_of (point_words cs p) in
-      in_cells d (draft_after d (parsed.Point p)) w f.after.body refl refl
-      (in_points (from_points cs (draft_after d (parsed.Point p))) w
-      (last_in (map (λ x. line_of (point_words cs x)) d.points) (map (λ x. line_of (point_words cs x)) (d.points ++ p ∷ []))
-      (end_line d.ended) w (map_last (λ x. line_of (point_words cs x)) d.points p) (no_end d k cs f.room)))
+      let empty = no_end d k cs f.room in
+      grow 7 (line_of (point_words cs p)) (sections d) (sections (draft_after d (parsed.Point p)))
+      (both_of (open_more d f.after.body) (both_of refl (both_of refl (both_of refl (both_of refl (both_of refl (both_of refl
+      (with_rest (map_last (λ x. line_of (point_words cs x)) d.points p) empty))))))))
   so_far_after parsed.End i f =
-      in_cells d (draft_after d parsed.End) (codes "end") f refl refl
-      (in_points (from_points cs (draft_after d parsed.End)) (codes "end")
-      (behind (map (λ x. line_of (point_words cs x)) d.points) (end_line d.ended) (end_line true) (codes "end")
-      (ap (λ t. end_line t ++ codes "end" ∷ []) (sym i.2))))
+      grow 8 (codes "end") (sections d) (sections (draft_after d parsed.End))
+      (both_of (open_more d f) (both_of refl (both_of refl (both_of refl (both_of refl (both_of refl (both_of refl (both_of refl
+      (with_rest (ap (λ t. end_line t ++ codes "end" ∷ []) (sym i.2)) tt)))))))))
 
 -- the whole text
 
@@ -408,17 +344,13 @@ later_lines v c =
     ∷ (map (λ m. line_of (cell_words m)) c.head.cells.items
     ++ schedule_lines v c.schedule (map (λ r. line_of (rest_words r)) c.rests ++ state_lines c.head.cells.items c.entry c.points))
 
-onto : (front xs t ys : Lines) → xs ++ t ≡ ys → (front ++ xs) ++ t ≡ front ++ ys
-onto front xs t ys e = append_assoc front xs t ∙ ap (λ z. front ++ z) e
+abbrev flat_then : List Lines → Lines → Lines
+flat_then [] ys = ys
+flat_then (xs ∷ rest) ys = xs ++ flat_then rest ys
 
-sizes_same : (s : Sizes) (kinds lines rests points cells : ℕ) → kinds ≡ s.kinds → lines ≡ s.lines → rests ≡ s.rests → points ≡ s.points
-    → cells ≡ s.cells
-    → s ≡ record { kinds = kinds; lines = lines; rests = rests; points = points; cells = cells }
-sizes_same s kinds lines rests points cells a b x y z =
-    ap (λ n. record s { kinds = n }) (sym a) ∙ (ap (λ n. record s { kinds = kinds; lines = n }) (sym b)
-    ∙ (ap (λ n. record s { kinds = kinds; lines = lines; rests = n }) (sym x)
-    ∙ (ap (λ n. record s { kinds = kinds; lines = lines; rests = rests; points = n }) (sym y)
-    ∙ ap (λ n. record s { kinds = kinds; lines = lines; rests = rests; points = points; cells = n }) (sym z))))
+flat_onto : (xs : List Lines) (ys : Lines) → flat xs ++ ys ≡ flat_then xs ys
+flat_onto [] ys = refl
+flat_onto (x ∷ xs) ys = append_assoc x (flat xs) ys ∙ ap (λ t. x ++ t) (flat_onto xs ys)
 
 pub whole_text : (d : Draft) (e : Entry) → Kept d → 4 ≤ d.read → IsWhole d → d.entry ≡ Some e
     → so_far d ++ [] ∷ [] ≡ later_lines d.version (cert_from d e)
@@ -433,54 +365,52 @@ whole_text d e k b w is =
     let all_points = w.points in
     let few_cells = k.cells.few in
     let all_cells = w.states.after.cells in
-    let sizes = sizes_same d.sizes (length d.kinds) (length d.lines) (length d.rests) (length d.points) (length d.head.cells.items)
-    (omega (arith, few_kinds, all_kinds)) (omega (arith, few_lines, all_lines)) (omega (arith, few_rests, all_rests))
-    (omega (arith, few_points, all_points)) (omega (arith, few_cells, all_cells)) in
-    onto (take (d.read - 1) (opening d)) (from_cells d) end _ cells
-    ∙ ap (λ t. t ++ (cell_lines ++ kinds_then d.version d.kinds d.lengths late)) (open_take d.read _ _ _ b)
-    ∙ ap (λ s. line_of (sizes_words s) ∷ line_of (response_words d.head.irq) ∷ line_of (stack_words d.head)
-    ∷ (cell_lines ++ kinds_then d.version d.kinds d.lengths late)) sizes
+    let kinds_are : d.sizes.kinds ≡ length d.kinds = omega (arith, few_kinds, all_kinds) in
+    let lines_are : d.sizes.lines ≡ length d.lines = omega (arith, few_lines, all_lines) in
+    let rests_are : d.sizes.rests ≡ length d.rests = omega (arith, few_rests, all_rests) in
+    let points_are : d.sizes.points ≡ length d.points = omega (arith, few_points, all_points) in
+    let cells_are : d.sizes.cells ≡ length d.head.cells.items = omega (arith, few_cells, all_cells) in
+    flat_onto (sections d) ([] ∷ [])
+    ∙ (λ i. opened_all i ++ (cell_lines ++ (kinds i ++ (fall i ++ (run_lines ++ (rest_lines ++ (entry i ++ (point_lines
+    ++ (end i ++ [] ∷ [])))))))))
+    ∙ ap (λ t. opening d ++ (cell_lines ++ t)) (kinds_split d.version d.kinds d.lengths late)
+    ∙ (λ i. line_of (sizes_words (record {
+      kinds = kinds_are i;
+      lines = lines_are i;
+      rests = rests_are i;
+      points = points_are i;
+      cells = cells_are i;
+    })) ∷ line_of (response_words d.head.irq) ∷ line_of (stack_words d.head) ∷ (cell_lines ++ kinds_then d.version d.kinds d.lengths late))
   where
-    end : Lines
-    end = [] ∷ []
-
-    cs : List Cell
-    cs = d.head.cells.items
+    opened_all : take (d.read - 1) (opening d) ≡ opening d
+    opened_all = open_take d.read _ _ _ b
 
     cell_lines : Lines
     cell_lines = map (λ c. line_of (cell_words c)) d.head.cells.items
 
-    states : Lines
-    states = map (λ r. line_of (rest_words r)) d.rests ++ state_lines d.head.cells.items e d.points
+    run_lines : Lines
+    run_lines = map (λ r. line_of (run_words r)) (runs_of d.lines)
+
+    rest_lines : Lines
+    rest_lines = map (λ r. line_of (rest_words r)) d.rests
+
+    point_lines : Lines
+    point_lines = map (λ p. line_of (point_words d.head.cells.items p)) d.points
 
     late : Lines
-    late = line_of (codes "fall" ∷ decimal d.fall ∷ []) ∷ (map (λ r. line_of (run_words r)) (runs_of d.lines) ++ states)
+    late = line_of (codes "fall" ∷ decimal d.fall ∷ [])
+        ∷ (run_lines ++ (rest_lines ++ state_lines d.head.cells.items e d.points))
 
-    points : from_points d.head.cells.items d ++ end ≡ map (λ p. line_of (point_words d.head.cells.items p)) d.points ++ last_lines
-    points = onto (map (λ p. line_of (point_words d.head.cells.items p)) d.points) (end_line d.ended) end last_lines
-        (ap (λ t. end_line t ++ end) w.ended)
+    kinds : kinds_so_far d ≡ kinds_then d.version d.kinds d.lengths []
+    kinds =
+        ap (λ n. kinds_then d.version d.kinds d.lengths [] ++ begun_lines d.version n d.events d.clocks) w.states.none_owed
+        ∙ append-nil (kinds_then d.version d.kinds d.lengths [])
 
-    entry : from_entry d.head.cells.items d ++ end ≡ state_lines d.head.cells.items e d.points
-    entry =
-        onto (entry_line d.head.cells.items d.entry) (from_points d.head.cells.items d) end _ points
-        ∙ ap (λ o. entry_line d.head.cells.items o
-        ++ (map (λ p. line_of (point_words d.head.cells.items p)) d.points ++ last_lines)) is
+    fall : fall_line d.fall ≡ line_of (codes "fall" ∷ decimal d.fall ∷ []) ∷ []
+    fall = else_so (eqb d.fall 0) [] (line_of (codes "fall" ∷ decimal d.fall ∷ []) ∷ []) (not_number d.fall 0 w.states.fall)
 
-    runs : from_runs d.head.cells.items d ++ end ≡ map (λ r. line_of (run_words r)) (runs_of d.lines) ++ states
-    runs =
-        onto (map (λ r. line_of (run_words r)) (runs_of d.lines)) (from_rests d.head.cells.items d) end _
-        (onto (map (λ r. line_of (rest_words r)) d.rests) (from_entry d.head.cells.items d) end _ entry)
+    entry : entry_line d.head.cells.items d.entry ≡ line_of (entry_words d.head.cells.items e) ∷ []
+    entry = ap (entry_line d.head.cells.items) is
 
-    fall : from_fall d.head.cells.items d ++ end ≡ late
-    fall =
-        onto (fall_line d.fall) (from_runs d.head.cells.items d) end _ runs
-        ∙ ap (λ t. t ++ (map (λ r. line_of (run_words r)) (runs_of d.lines) ++ states))
-        (else_so (eqb d.fall 0) [] (line_of (codes "fall" ∷ decimal d.fall ∷ []) ∷ []) (not_number d.fall 0 w.states.fall))
-
-    cells : from_cells d ++ end ≡ cell_lines ++ kinds_then d.version d.kinds d.lengths late
-    cells =
-        onto cell_lines (from_kinds d.head.cells.items d) end _
-        (onto (kinds_then d.version d.kinds d.lengths []) (from_begun d.head.cells.items d) end late
-        (onto (begun_lines d.version d.owed d.events d.clocks) (from_fall d.head.cells.items d) end late fall
-        ∙ ap (λ n. begun_lines d.version n d.events d.clocks ++ late) w.states.none_owed)
-        ∙ kinds_split d.version d.kinds d.lengths late)
+    end : end_line d.ended ≡ codes "end" ∷ []
+    end = ap end_line w.ended

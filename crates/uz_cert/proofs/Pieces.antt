@@ -1,10 +1,8 @@
 -- A text is cut at its LF bytes one after another.
-use Rattle.std.proofs.Common.{◌≡◌, ℕ, suc, ◌+◌, ◌≤◌, Bool, true, false, cond, eqb, List, [], ◌∷◌, length, refl, sym, ◌∙◌, ap, subst, arith}
-use Rattle.std.specs.Prelude.{Option, Some, None, IsSome, ⊤}
-use Rattle.std.specs.Borrow.{Bor}
-use Rattle.std.specs.List.{onto_first}
+use Rattle.uz_cert.proofs.Common.{◌≡◌, ℕ, suc, ◌+◌, ◌≤◌, Bool, true, false, cond, eqb, List, [], ◌∷◌, length, refl, sym, ◌∙◌, ap, subst}
+use Rattle.uz_cert.proofs.Common.{arith, Option, Some, None, ⊤, is_more, pieces_left, pieces_of}
 use Rattle.uz_hex.specs.Cutting.{cut_at, cut_behind}
-use Rattle.uz_cert.specs.Reading.{is_more, pieces_left, pieces_of}
+use Rattle.std.specs.{Borrow.Bor, Prelude.IsSome, List.onto_first}
 
 -- the pieces of a text that is cut so
 abbrev pub pieces_by : List ℕ → Option (List ℕ × List ℕ) → List (List ℕ)

@@ -1,12 +1,10 @@
 -- The lines of a frame as runs of one kind, and back.
-use Rattle.std.proofs.Common.{◌≡◌, ◌≢◌, ℕ, zero, suc, ◌+◌, ◌<◌, ◌≤◌, Bool, true, false, cond, eqb, List, [], ◌∷◌, ◌++◌, replicate, All}
-use Rattle.std.proofs.Common.{refl, sym, ◌∙◌, ap, subst, append-nil, add-one, arith}
-use Rattle.std.specs.Prelude.{⊤}
-use Rattle.std.proofs.lemmas.Bool.{eqb-true, eqb-false}
-use Rattle.uz_cert_laws.proofs.Tests.{not_number, same_number}
-use Rattle.std.proofs.lemmas.List.Elements.{All-nil, All-cons, All-head, All-tail}
-use Rattle.uz_cert_writer.specs.Spelling.{run_before, runs_of}
-use Rattle.uz_cert.specs.Kept.{LastIs}
+use Rattle.uz_cert.proofs.Common.{◌≡◌, ◌≢◌, ℕ, zero, suc, ◌+◌, ◌<◌, ◌≤◌, Bool, true, false, cond, eqb, List, [], ◌∷◌, ◌++◌, replicate}
+use Rattle.uz_cert.proofs.Common.{All, refl, sym, ◌∙◌, ap, subst, append-nil, arith, ⊤, eqb-true, eqb-false, not_number, All-nil}
+use Rattle.uz_cert.proofs.Common.{All-cons, All-head, All-tail, runs_of, LastIs}
+use Rattle.std.proofs.Common.{add-one}
+use Rattle.uz_cert_laws.proofs.Tests.{same_number}
+use Rattle.uz_cert_writer.specs.Spelling.{run_before}
 use Rattle.uz_cert.proofs.SpelledText.{expand, Apart}
 
 -- the runs of lines give the lines

@@ -1,14 +1,9 @@
 -- One piece more is read.
-use Rattle.std.proofs.Common.{◌≡◌, ℕ, ◌+◌, Bool, true, List, [], ◌∷◌, refl, sym, ◌∙◌, ap}
-use Rattle.std.specs.Prelude.{Some, Result, Ok, Err}
-use Rattle.uz_schedule.specs.declared.certificate.Cert.{Cert}
-use Rattle.uz_cert_lines.specs.declared.why.CertWhy.{CertWhy}
-use Rattle.uz_cert_lines.specs.declared.why.CertWhy.TheVariants as why
-use Rattle.uz_cert.specs.Drafts.{expected_line}
-use Rattle.uz_cert.specs.Reading.{Fault, is_more, pieces_of, line_says, or_fault, cert_before, read_by, read_from}
-use Rattle.uz_cert.specs.declared.expected_line.ExpectedLine.{ExpectedLine}
-use Rattle.uz_cert.specs.declared.draft.Draft.{Draft}
+use Rattle.uz_cert.proofs.Common.{◌≡◌, ℕ, ◌+◌, Bool, true, List, [], ◌∷◌, refl, sym, ◌∙◌, ap, Some, Result, Ok, Err, Cert, CertWhy}
+use Rattle.uz_cert.proofs.Common.{expected_line, Fault, is_more, pieces_of, line_says, or_fault, cert_before, read_by, read_from}
+use Rattle.uz_cert.proofs.Common.{ExpectedLine, Draft}
 use Rattle.uz_cert.proofs.Pieces.{some_piece}
+use Rattle.uz_cert_lines.specs.declared.why.CertWhy.TheVariants as why
 
 read_due : (d : Draft) (expected : ExpectedLine) (line : List ℕ) (rest : List (List ℕ)) → expected_line d ≡ Some expected
     → read_from d (line ∷ rest) ≡ or_fault (d.read + 1) (line_says d expected line (is_more rest)) (λ more. read_from more rest)

@@ -1,32 +1,73 @@
 -- What reading gives is what the relation over all lines says, both ways.
-use Rattle.std.proofs.Common.{◌≡◌, ◌≢◌, ◌⊎◌, inl, inr, ℕ, suc, ◌+◌, ◌≤◌, Bool, true, false, cond, List, [], ◌∷◌, ◌++◌, length, bytes_eq}
-use Rattle.std.proofs.Common.{refl, sym, ◌∙◌, ap, subst, arith}
-use Rattle.std.specs.Prelude.{Option, Some, None, Result, Ok, Err, IfOk, IfErr}
-use Rattle.std.proofs.lemmas.Slice.Eq.{bytes_eq-Decides}
-use Rattle.uz_schedule.specs.declared.states.Entry.{Entry}
-use Rattle.uz_schedule.specs.declared.certificate.Cert.{Cert}
-use Rattle.uz_cert_lines.specs.Why.{◌>>=◌}
-use Rattle.uz_cert_lines.specs.Grammar.{Words}
-use Rattle.uz_cert_lines.specs.Forms.{LineForm, reads}
-use Rattle.uz_cert_lines.specs.FirstFault.{Allows, HasFirstFault}
-use Rattle.uz_cert_lines.specs.Lines.{head_line}
-use Rattle.uz_cert_lines.specs.declared.lines.ParsedLine.{ParsedLine}
-use Rattle.uz_cert_lines.specs.declared.version.Version.{Version}
-use Rattle.uz_cert_lines.specs.declared.version.Version.TheVariants.{First, Second, Third}
-use Rattle.uz_cert_lines.specs.declared.why.CertWhy.{CertWhy}
+use Rattle.uz_cert.proofs.Common.{◌≡◌, ℕ, Bool, true, false, cond, List, [], ◌∷◌, refl, sym, ◌∙◌, ap, Ok, Cell, ◌>>=◌, Words, reads}
+use Rattle.uz_cert.proofs.Common.{ParsedLine, true_not, ◌≢◌, ◌⊎◌, inl, inr, suc, ◌+◌, ◌≤◌, ◌++◌, length, bytes_eq, subst, arith, Option}
+use Rattle.uz_cert.proofs.Common.{Some, None, Result, Err, IfOk, IfErr, Entry, Cert, head_line, Version, First, Second, Third, CertWhy}
+use Rattle.uz_cert.proofs.Common.{first_draft, lacks, expected_line, form_of, draft_after, Fault, Gives, IsMemory, pieces_of, is_more}
+use Rattle.uz_cert.proofs.Common.{words_in, line_says, or_fault, cert_from, cert_with, cert_before, read_by, read_from, read_pieces}
+use Rattle.uz_cert.proofs.Common.{cert_of_text, IsCertificateText, IsFirstFault, ExpectedLine, Draft, CertError}
+use Rattle.uz_cert_lines.specs.Forms.{LineForm, with_span, spans_of, fixed, number, choice, slope, spans, items, finish}
+use Rattle.uz_cert_laws.proofs.Tests.{bind_ok, fine_is, word_is, same_word, fine}
+use Rattle.uz_cert_lines.specs.Grammar.{rest_of, next_as, fixed_of, number_of, choice_of, slope_of, end_of}
+use Rattle.uz_cert.specs.Texts.{Adds, Reaches, SpellsCertificate, HeadFails, LineFails, FailsAtHead, FailsLater}
+use Rattle.uz_cert_lines.specs.{Values.span_of, declared.items.Shape.Shape, declared.items.Facts.Facts, FirstFault.Allows}
+use Rattle.uz_cert_lines.specs.{FirstFault.HasFirstFault, Items.first_facts, Items.take_item, Items.items_from, Items.read_items}
+use Rattle.uz_schedule.specs.{Ends.Ends, Tracked.tracks, declared.kinds.Kind.TheVariants.Handler}
+use Rattle.uz_cert.proofs.{Pieces.some_piece, ExpectedLineLaws.is_whole}
 use Rattle.uz_cert_lines.specs.declared.why.CertWhy.TheVariants as why
-use Rattle.uz_cert.specs.Drafts.{first_draft, lacks, expected_line, form_of, draft_after}
-use Rattle.uz_cert.specs.Reading.{Fault, Gives, IsMemory, pieces_of, is_more, words_in, line_says, or_fault}
-use Rattle.uz_cert.specs.Reading.{cert_from, cert_with, cert_before, read_by, read_from, read_pieces, cert_of_text}
-use Rattle.uz_cert.specs.Texts.{Adds, Reaches, SpellsCertificate, IsCertificateText, HeadFails, LineFails, FailsAtHead, FailsLater}
-use Rattle.uz_cert.specs.Texts.{IsFirstFault}
-use Rattle.uz_cert.specs.declared.expected_line.ExpectedLine.{ExpectedLine}
-use Rattle.uz_cert.specs.declared.draft.Draft.{Draft}
-use Rattle.uz_cert.specs.declared.errors.CertError.{CertError}
-use Rattle.uz_cert.proofs.ExpectedLineLaws.{is_whole}
-use Rattle.uz_cert.proofs.LineEnds.{line_ended}
-use Rattle.uz_cert_laws.proofs.Tests.{bind_ok, fine, fine_is}
-use Rattle.uz_cert.proofs.Pieces.{some_piece}
+
+end_ended : (ended : Bool) (list : List (List ℕ)) (n : ℕ) → end_of ended list ≡ Ok n → ended ≡ true
+end_ended true list n e = refl
+end_ended false [] n e = absurd cc
+end_ended false (w ∷ ws) n e = absurd cc
+
+items_ended : (shape : Shape) (cells : List Cell) (ended : Bool) (f : Facts) (words : List (List ℕ)) (said : Facts)
+    → items_from shape cells ended f words ≡ Ok said → ended ≡ true
+items_ended shape cells true f [] said e = refl
+items_ended shape cells false f [] said e = absurd cc
+items_ended shape cells ended f (w ∷ ws) said e =
+    let m = bind_ok (take_item shape cells f w ws) (λ more. items_from shape cells ended more ws) said e in
+    items_ended shape cells ended m.0 ws said m.2
+
+all_items_ended : (shape : Shape) (cells : List Cell) (words : Words) (said : Facts) → read_items shape cells words ≡ Ok said
+    → words.ended ≡ true
+unfolding read_items
+all_items_ended shape cells words said e = items_ended shape cells words.ended (first_facts shape.kind cells) words.list said e
+
+spans_ended : (cells : List Cell) (words : Words) (p : List Ends × Words) → spans_of cells words ≡ Ok p → p.1.ended ≡ words.ended
+spans_ended [] words p e = sym (ap (λ q. q.1.ended) (fine_is ([], words) p e))
+spans_ended (m ∷ ms) words p e = by (tracks Handler m.owner) e (λ rest q g. spans_ended ms rest q g)
+  where
+    by : (t : Bool) → cond t (next_as (span_of m.range) words >>= (λ x. with_span x (spans_of ms (rest_of words)))) (spans_of ms words) ≡ Ok
+        p
+        → ((rest : Words) (q : List Ends × Words) → spans_of ms rest ≡ Ok q → q.1.ended ≡ rest.ended) → p.1.ended ≡ words.ended
+    by false g later = later words p g
+    by true g later =
+        let a = bind_ok (next_as (span_of m.range) words) (λ x. with_span x (spans_of ms (rest_of words))) p g in
+        let b = bind_ok (spans_of ms (rest_of words)) (λ q. Ok (a.0 ∷ q.0, q.1)) p a.2 in
+        sym (ap (λ q. q.1.ended) (fine_is (a.0 ∷ b.0.0, b.0.1) p b.2)) ∙ later (rest_of words) b.0 b.1
+
+pub line_ended : (form : LineForm) (words : Words) (said : ParsedLine) → reads form words ≡ Ok said → words.ended ≡ true
+line_ended (fixed wanted form) words said e =
+    let m = bind_ok (next_as (fixed_of wanted) words) (λ n. reads form (rest_of words)) said e in
+    line_ended form (rest_of words) said m.2
+line_ended (number a form) words said e =
+    let m = bind_ok (next_as (number_of a) words) (λ n. reads (form n) (rest_of words)) said e in
+    line_ended (form m.0) (rest_of words) said m.2
+line_ended (choice wanted form) words said e =
+    let m = bind_ok (next_as (choice_of wanted) words) (λ n. reads (form n) (rest_of words)) said e in
+    line_ended (form m.0) (rest_of words) said m.2
+line_ended (slope limit form) words said e =
+    let m = bind_ok (next_as (slope_of limit) words) (λ n. reads (form n) (rest_of words)) said e in
+    line_ended (form m.0) (rest_of words) said m.2
+line_ended (spans cells form) words said e =
+    let m = bind_ok (spans_of cells words) (λ p. reads (form p.0) p.1) said e in
+    sym (spans_ended cells words m.0 m.1) ∙ line_ended (form m.0.0) m.0.1 said m.2
+line_ended (items shape cells say) words said e =
+    let m = bind_ok (read_items shape cells words) (λ facts. Ok (say facts)) said e in
+    all_items_ended shape cells words m.0 m.1
+line_ended (finish s) words said e =
+    let m = bind_ok (end_of words.ended words.list) (λ n. Ok s) said e in
+    end_ended words.ended words.list m.0 m.1
 
 -- what is known of one line
 pub record LineLaw : Type 0 where
@@ -123,7 +164,7 @@ adds l d m expected line rest is e =
 
 -- all pieces after the head
 
-record Ends (d : Draft) (pieces : List (List ℕ)) (c : Cert) : Type 0 where
+record EndsAs (d : Draft) (pieces : List (List ℕ)) (c : Cert) : Type 0 where
   lines : List (List ℕ)
   parts : pieces ≡ lines ++ [] ∷ []
   draft : Draft
@@ -148,7 +189,7 @@ with_ok d None c e = absurd cc
 with_ok d (Some x) c e = (x, refl, sym (same_cert (cert_from d x) c e))
 
 end_ok : (d : Draft) (line : List ℕ) (rest : List (List ℕ)) (c : Cert) → expected_line d ≡ None → cert_before d line rest ≡ told c
-    → Ends d (line ∷ rest) c
+    → EndsAs d (line ∷ rest) c
 unfolding cert_before
 end_ok d [] [] c expected e =
     let x = with_ok d d.entry c e in
@@ -173,12 +214,12 @@ end_err d [] [] n w some expected e =
 end_err d [] (piece ∷ rest) n w some expected e = let s = same_fault (d.read + 1) n why.NoEnd w e in (inr (λ h. cc h), sym s.1, sym s.0)
 end_err d (b ∷ bs) rest n w some expected e = let s = same_fault (d.read + 1) n why.NoEnd w e in (inl (λ h. cc h), sym s.1, sym s.0)
 
-from_ok : (l : LineLaw) (d : Draft) (pieces : List (List ℕ)) (c : Cert) → read_from d pieces ≡ told c → Ends d pieces c
+from_ok : (l : LineLaw) (d : Draft) (pieces : List (List ℕ)) (c : Cert) → read_from d pieces ≡ told c → EndsAs d pieces c
 from_ok l d [] c e = absurd cc
 from_ok l d (line ∷ rest) c e = by (expected_line d) refl e (λ m h. from_ok l m rest c h)
   where
     by : (o : Option ExpectedLine) → expected_line d ≡ o → read_by o d line rest (λ more. read_from more rest) ≡ told c
-        → ((m : Draft) → read_from m rest ≡ told c → Ends m rest c) → Ends d (line ∷ rest) c
+        → ((m : Draft) → read_from m rest ≡ told c → EndsAs m rest c) → EndsAs d (line ∷ rest) c
     by None is h later = end_ok d line rest c is h
     by (Some expected) is h later =
         let m = fault_ok (d.read + 1) (line_says d expected line (is_more rest)) (λ more. read_from more rest) c h in
@@ -276,7 +317,7 @@ reach_number d e (line ∷ lines) r =
     one_more : (n m k rest : ℕ) → m ≡ n + 1 → k ≡ m + rest → k ≡ n + suc rest
     one_more n m k rest h g = omega (arith, h, g)
 
-whole_read : (d : Draft) (e : Entry) → expected_line d ≡ None → d.entry ≡ Some e → read_from d ([] ∷ []) ≡ told (cert_from d e)
+pub whole_read : (d : Draft) (e : Entry) → expected_line d ≡ None → d.entry ≡ Some e → read_from d ([] ∷ []) ≡ told (cert_from d e)
 unfolding cert_before
 whole_read d e expected is = ap (λ o. read_by o d [] [] (λ more. read_from more [])) expected ∙ ap (cert_with d) is
 
@@ -301,16 +342,10 @@ line_fault l d line rest w (Some expected) is h =
 
 pub test_head : (version : Version) (line : List ℕ) → (bytes_eq line (head_line version) ≡ true → line ≡ head_line version)
     × (bytes_eq line (head_line version) ≡ false → line ≢ head_line version)
-test_head v line =
-    ((bytes_eq-Decides line (head_line v)).0, λ e h. not_true (sym (same_head v) ∙ sym (ap (λ x. bytes_eq x (head_line v)) h) ∙ e))
-  where
-    not_true : true ≡ false → ⊥
-    not_true h = cc
-
-    same_head : (version : Version) → bytes_eq (head_line version) (head_line version) ≡ true
-    same_head First = refl
-    same_head Second = refl
-    same_head Third = refl
+test_head v line = (
+  word_is line (head_line v),
+  λ e h. true_not (bytes_eq line (head_line v)) (ap (λ x. bytes_eq x (head_line v)) h ∙ same_word (head_line v)) e,
+)
 
 pub head_read : (version : Version) (rest : List (List ℕ)) → is_more rest ≡ true
     → read_pieces version (head_line version ∷ rest) ≡ read_from (first_draft version) rest
@@ -321,7 +356,7 @@ head_read Third rest more = ap (λ t. or_fault 1 (cond t (Ok (first_draft Third)
 pub text_certificate : (l : LineLaw) (v : Version) (text : List ℕ) (c : Cert) → cert_of_text v text ≡ told c → IsCertificateText v text c
 text_certificate l v text c e = by (pieces_of text) e
   where
-    of_rest : (rest : List (List ℕ)) → Ends (first_draft v) rest c → SpellsCertificate v (head_line v ∷ rest) c
+    of_rest : (rest : List (List ℕ)) → EndsAs (first_draft v) rest c → SpellsCertificate v (head_line v ∷ rest) c
     of_rest rest x = record {
       lines = x.lines;
       parts = ap (λ ps. head_line v ∷ ps) x.parts;

@@ -1,17 +1,9 @@
 -- The version that a text tells, and the one that a certificate's rules have.
-use Rattle.std.proofs.Common.{◌≡◌, ℕ, Bool, true, false, cond, ◌&&◌, List, [], ◌∷◌, ◌++◌, All, bytes_eq, refl, ◌∙◌, ap}
-use Rattle.std.proofs.lemmas.List.Elements.{All-nil, All-cons}
-use Rattle.uz_schedule.specs.Limits.{is_length, clocks_below, lengths_fit}
-use Rattle.uz_schedule.specs.WellFormed.{WellFormed}
-use Rattle.uz_schedule.specs.declared.certificate.Cert.{Cert}
-use Rattle.uz_schedule.specs.declared.kinds.RuleVersion.{RuleVersion}
-use Rattle.uz_schedule.specs.declared.kinds.RuleVersion.TheVariants.{Two, Three}
-use Rattle.uz_schedule.specs.declared.lines.Event.{Event}
-use Rattle.uz_schedule.specs.declared.states.Point.{Point}
-use Rattle.uz_cert_lines.specs.Lines.{head_line, rules_of, text_version, IsLengthIn, IsPointIn}
-use Rattle.uz_cert_lines.specs.declared.version.Version.TheVariants.{Second, Third}
-use Rattle.uz_cert.specs.Reading.{pieces_of, version_by, version_told}
-use Rattle.uz_cert.specs.Texts.{IsCertificateText, IsOfVersion}
+use Rattle.uz_cert.proofs.Common.{and_true, ◌≡◌, ℕ, Bool, true, false, cond, ◌&&◌, List, [], ◌∷◌, ◌++◌, All, bytes_eq, refl, ◌∙◌, ap}
+use Rattle.uz_cert.proofs.Common.{All-nil, All-cons, is_length, clocks_below, lengths_fit, WellFormed, Cert, RuleVersion, Two, Three}
+use Rattle.uz_cert.proofs.Common.{Event, Point, head_line, rules_of, text_version, IsLengthIn, IsPointIn, Second, Third, pieces_of}
+use Rattle.uz_cert.proofs.Common.{version_told, IsCertificateText, IsOfVersion}
+use Rattle.uz_cert.specs.Reading.{version_by}
 
 -- a text of version 2 or 3 tells it
 
@@ -50,10 +42,6 @@ own_length Three n h = h
 own_point : (rules : RuleVersion) (p : Point) → IsPointIn (text_version rules) p
 own_point Two p = tt
 own_point Three p = tt
-
-and_true : (a b : Bool) → (a && b) ≡ true → (a ≡ true) × (b ≡ true)
-and_true true b e = (refl, e)
-and_true false b e = absurd cc
 
 own_lengths : (rules : RuleVersion) (kinds : List (List Event)) (lengths : List ℕ) → lengths_fit kinds lengths ≡ true
     → All (IsLengthIn (text_version rules)) lengths

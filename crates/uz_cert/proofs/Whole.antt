@@ -1,16 +1,9 @@
 -- What is read to its end is a well formed certificate.
-use Rattle.std.proofs.Common.{◌≡◌, ◌≢◌, ℕ, ◌+◌, ◌<◌, ◌≤◌, List, [], ◌∷◌, length, All, refl, subst, arith}
-use Rattle.std.specs.Prelude.{Option, Some, None, Result, Ok, Err, IfOk, IfSome, sum_by}
+use Rattle.uz_cert.proofs.Common.{◌≡◌, ◌≢◌, ℕ, ◌+◌, ◌<◌, ◌≤◌, List, [], ◌∷◌, length, All, refl, subst, arith, Option, Some, None, Result}
+use Rattle.uz_cert.proofs.Common.{Ok, Err, IfOk, IfSome, sum_by, RestFits, EntryFits, PointFits, WellFormed, instances_of, Entry, Cert}
+use Rattle.uz_cert.proofs.Common.{expected_line, Kept, Gives, cert_from, cert_with, cert_before, CertError, Draft}
 use Rattle.uz_schedule.specs.Limits.{ScheduleFits}
-use Rattle.uz_schedule.specs.WellFormed.{RestFits, EntryFits, PointFits, WellFormed, instances_of}
-use Rattle.uz_schedule.specs.declared.states.Entry.{Entry}
-use Rattle.uz_schedule.specs.declared.certificate.Cert.{Cert}
-use Rattle.uz_cert.specs.Drafts.{expected_line}
-use Rattle.uz_cert.specs.Kept.{Kept}
-use Rattle.uz_cert.specs.Reading.{Fault, Gives, cert_from, cert_with, cert_before}
-use Rattle.uz_cert.specs.declared.errors.CertError.{CertError}
-use Rattle.uz_cert.specs.declared.draft.Draft.{Draft}
-use Rattle.uz_cert.proofs.ExpectedLineLaws.{IsWhole, is_whole}
+use Rattle.uz_cert.proofs.{TextLaws.same_cert, ExpectedLineLaws.IsWhole, ExpectedLineLaws.is_whole}
 
 schedule_fits : (d : Draft) → Kept d → IsWhole d
     → ScheduleFits (record { kinds = d.kinds; lengths = d.lengths; lines = d.lines; fall = d.fall })
@@ -70,13 +63,7 @@ whole_fits d e k expected is =
 
 by_entry : (d : Draft) (o : Option Entry) (c : Cert) → Kept d → expected_line d ≡ None → d.entry ≡ o → cert_with d o ≡ Ok c → WellFormed c
 by_entry d None c k expected is e = absurd cc
-by_entry d (Some x) c k expected is e = subst WellFormed (ok_cert (cert_from d x) c e) (whole_fits d x k expected is)
-  where
-    answer : Cert → Result Cert Fault
-    answer x = Ok x
-
-    ok_cert : (a b : Cert) → answer a ≡ answer b → a ≡ b
-    ok_cert a b h = cc
+by_entry d (Some x) c k expected is e = subst WellFormed (same_cert (cert_from d x) c e) (whole_fits d x k expected is)
 
 pub read_fits : (d : Draft) (line : List ℕ) (rest : List (List ℕ)) (c : Cert) → Kept d → expected_line d ≡ None → cert_before d line rest ≡ Ok c
     → WellFormed c

@@ -1,102 +1,70 @@
 -- The words of what the flags tell: read as they are written, and only so.
 use Rattle.uz_cert_laws.proofs.Common.{◌≡◌, ℕ, ◌<◌, ◌≤◌, ◌^◌, true, false, leb, List, ◌∷◌, ◌++◌, decimal, codes, bytes_eq, lit<, lit≤}
 use Rattle.uz_cert_laws.proofs.Common.{refl, sym, ◌∙◌, ap, subst, arith, Option, Some, None, Ok, Err, cut_at, cut_read, cut_again, ◌>>=◌}
-use Rattle.uz_cert_laws.proofs.Common.{one_number, ends, two_word, three_word, four_word, comparison_word, split_word}
-use Rattle.uz_schedule.specs.WellFormed.{ComparedFits, SplitFits}
-use Rattle.uz_schedule.specs.declared.facts.Against.TheVariants.{Register, Constant}
-use Rattle.uz_schedule.specs.declared.facts.Compared.{Compared}
-use Rattle.uz_schedule.specs.declared.facts.Compared.TheVariants as told
-use Rattle.uz_cert_lines.specs.Comparisons.{two_parts, two_listed, three_parts, three_listed, four_parts, four_listed, in_range, is_nothing}
-use Rattle.uz_cert_lines.specs.Comparisons.{value_told, register_told, constant_told, registers_told, constants_told, result_told, results_told}
-use Rattle.uz_cert_lines.specs.Comparisons.{pair_named, comparison_named, comparison_cut, comparison}
+use Rattle.uz_cert_laws.proofs.Common.{◌+◌, Result, CertWhy, RangeFits, one_number, ends, two_word, three_word, four_word}
+use Rattle.uz_cert_laws.proofs.Common.{comparison_word, ComparedFits, SplitFits, Register, Constant, Compared}
+use Rattle.uz_cert_writer.specs.Spelling.{split_word}
+use Rattle.uz_cert_lines.specs.Comparisons.{two_listed, three_listed, four_listed, in_range, is_nothing, value_told, register_told}
+use Rattle.uz_cert_lines.specs.Comparisons.{constant_told, registers_told, constants_told, result_told, results_told, pair_named}
+use Rattle.uz_cert_lines.specs.Comparisons.{comparison_named, comparison_cut, comparison}
 use Rattle.uz_cert_lines.specs.Named.{is_none}
-use Rattle.uz_cert_lines.specs.declared.why.CertWhy.TheVariants as why
 use Rattle.uz_cert_laws.proofs.Tests.{tested, fine_is, fault_not, passed, so, bind_ok, then, le_is, is_le, word_is}
 use Rattle.uz_cert_laws.proofs.Numbers.{one_only, one_so, decimal_lacks_below, lacks, lacks_is}
+use Rattle.uz_schedule.specs.declared.facts.Compared.TheVariants as told
+use Rattle.uz_cert_lines.specs.declared.why.CertWhy.TheVariants as why
 
--- numbers with commas (44) between them: only what is written is read
+-- what a word is read as, where just what is written is read and only that
 
-pub two_only : (a b : ℕ) (w : List ℕ) (n : ℕ × ℕ) → a ≤ 2 ^ 32 → b ≤ 2 ^ 32 → two_listed a b w ≡ Ok n
-    → (w ≡ two_word n.0 n.1) × (n.0 < a) × (n.1 < b)
+record IsRead {B : Type 0} (read : List ℕ → Result B CertWhy) (word : B → List ℕ) (In : B → Type 0) : Type 0 where
+  only : (w : List ℕ) (n : B) → read w ≡ Ok n → (w ≡ word n) × In n
+  so : (n : B) → In n → read (word n) ≡ Ok n
+
+one_read : (limit : ℕ) → limit ≤ 2 ^ 32 → IsRead (one_number 0 limit) decimal (λ n. n < limit)
+one_read limit l = record {
+  only = λ w n e. let is = one_only 0 limit n w l e in (is.0, is.2);
+  so = λ n h. one_so 0 limit n l (omega arith) h;
+}
+
+-- a number, a comma (44) and what is read after it
+abbrev parts : {B : Type 0} → ℕ → (List ℕ → Result B CertWhy) → Option (List ℕ × List ℕ) → Result (ℕ × B) CertWhy
+parts a more None = Err why.Word
+parts a more (Some p) = one_number 0 a p.0 >>= (λ m. more p.1 >>= (λ n. Ok (m, n)))
+
+then_read : {B : Type 0} {more : List ℕ → Result B CertWhy} {word : B → List ℕ} {In : B → Type 0} (a : ℕ) → a ≤ 2 ^ 32 → IsRead more word In
+    → IsRead (λ w. parts a more (cut_at 44 w)) (λ n. decimal n.0 ++ 44 ∷ word n.1) (λ n. (n.0 < a) × In n.1)
+then_read {B} {more} {word} {In} a l r = record {
+  only = λ w n e. by_cut w n (cut_at 44 w) refl e;
+  so = λ n h.
+      ap (parts a more) (cut_again 44 (decimal n.0) (word n.1) (decimal_lacks_below 44 n.0 (lit< tt) (omega (arith, h.0))))
+      ∙ then (one_number 0 a (decimal n.0)) (λ x. more (word n.1) >>= (λ y. Ok (x, y))) n.0 (Ok n) (one_so 0 a n.0 l (omega arith) h.0)
+      (then (more (word n.1)) (λ y. Ok (n.0, y)) n.1 (Ok n) (r.so n.1 h.1) refl);
+}
+  where
+    by_cut : (w : List ℕ) (n : ℕ × B) (o : Option (List ℕ × List ℕ)) → cut_at 44 w ≡ o → parts a more o ≡ Ok n
+        → (w ≡ decimal n.0 ++ 44 ∷ word n.1) × ((n.0 < a) × In n.1)
+    by_cut w n None c e = absurd cc
+    by_cut w n (Some p) c e =
+        let m = bind_ok (one_number 0 a p.0) (λ m. more p.1 >>= (λ k. Ok (m, k))) n e in
+        let k = bind_ok (more p.1) (λ k. Ok (m.0, k)) n m.2 in
+        let front = one_only 0 a m.0 p.0 l m.1 in
+        let back = r.only p.1 k.0 k.1 in
+        subst (λ (q : ℕ × B). (w ≡ decimal q.0 ++ 44 ∷ word q.1) × ((q.0 < a) × In q.1)) (fine_is {A = ℕ × B} (m.0, k.0) n k.2)
+        (cut_read 44 w p c ∙ ap (λ t. t ++ 44 ∷ p.1) front.0 ∙ ap (λ t. decimal m.0 ++ 44 ∷ t) back.0, (front.2, back.1))
+
+two_read : (a b : ℕ) → a ≤ 2 ^ 32 → b ≤ 2 ^ 32 → IsRead (two_listed a b) (λ n. two_word n.0 n.1) (λ n. (n.0 < a) × (n.1 < b))
 unfolding two_listed
-two_only a b w n la lb e = by_cut (cut_at 44 w) refl e
-  where
-    by_cut : (o : Option (List ℕ × List ℕ)) → cut_at 44 w ≡ o → two_parts a b o ≡ Ok n → (w ≡ two_word n.0 n.1) × (n.0 < a) × (n.1 < b)
-    by_cut None c e = absurd cc
-    by_cut (Some p) c e =
-        let m = bind_ok (one_number 0 a p.0) (λ m. one_number 0 b p.1 >>= (λ k. Ok (m, k))) n e in
-        let k = bind_ok (one_number 0 b p.1) (λ k. Ok (m.0, k)) n m.2 in
-        let front = one_only 0 a m.0 p.0 la m.1 in
-        let back = one_only 0 b k.0 p.1 lb k.1 in
-        subst (λ (q : ℕ × ℕ). (w ≡ two_word q.0 q.1) × (q.0 < a) × (q.1 < b)) (fine_is {A = ℕ × ℕ} (m.0, k.0) n k.2)
-        (cut_read 44 w p c ∙ ap (λ t. t ++ 44 ∷ p.1) front.0 ∙ ap (λ t. decimal m.0 ++ 44 ∷ t) back.0, front.2, back.2)
+two_read a b la lb = then_read a la (one_read b lb)
 
-pub three_only : (a b c : ℕ) (w : List ℕ) (n : ℕ × (ℕ × ℕ)) → a ≤ 2 ^ 32 → b ≤ 2 ^ 32 → c ≤ 2 ^ 32 → three_listed a b c w ≡ Ok n
-    → (w ≡ three_word n.0 n.1.0 n.1.1) × (n.0 < a) × (n.1.0 < b) × (n.1.1 < c)
+three_read : (a b c : ℕ) → a ≤ 2 ^ 32 → b ≤ 2 ^ 32 → c ≤ 2 ^ 32
+    → IsRead (three_listed a b c) (λ n. three_word n.0 n.1.0 n.1.1) (λ n. (n.0 < a) × ((n.1.0 < b) × (n.1.1 < c)))
 unfolding three_listed
-three_only a b c w n la lb lc e = by_cut (cut_at 44 w) refl e
-  where
-    by_cut : (o : Option (List ℕ × List ℕ)) → cut_at 44 w ≡ o → three_parts a b c o ≡ Ok n
-        → (w ≡ three_word n.0 n.1.0 n.1.1) × (n.0 < a) × (n.1.0 < b) × (n.1.1 < c)
-    by_cut None i e = absurd cc
-    by_cut (Some p) i e =
-        let m = bind_ok (one_number 0 a p.0) (λ m. two_listed b c p.1 >>= (λ k. Ok (m, k))) n e in
-        let k = bind_ok (two_listed b c p.1) (λ k. Ok (m.0, k)) n m.2 in
-        let front = one_only 0 a m.0 p.0 la m.1 in
-        let back = two_only b c p.1 k.0 lb lc k.1 in
-        subst (λ (q : ℕ × (ℕ × ℕ)). (w ≡ three_word q.0 q.1.0 q.1.1) × (q.0 < a) × (q.1.0 < b) × (q.1.1 < c))
-        (fine_is {A = ℕ × (ℕ × ℕ)} (m.0, k.0) n k.2)
-        (cut_read 44 w p i ∙ ap (λ t. t ++ 44 ∷ p.1) front.0 ∙ ap (λ t. decimal m.0 ++ 44 ∷ t) back.0, front.2, back.1, back.2)
+three_read a b c la lb lc = then_read a la (two_read b c lb lc)
 
-pub four_only : (a b : ℕ) (w : List ℕ) (n : ℕ × (ℕ × (ℕ × ℕ))) → a ≤ 2 ^ 32 → b ≤ 2 ^ 32 → four_listed a b w ≡ Ok n
-    → (w ≡ four_word n.0 n.1.0 n.1.1.0 n.1.1.1) × (n.0 < a) × (n.1.0 < b) × (n.1.1.0 < b) × (n.1.1.1 < b)
+four_read : (a b : ℕ) → a ≤ 2 ^ 32 → b ≤ 2 ^ 32
+    → IsRead (four_listed a b) (λ n. four_word n.0 n.1.0 n.1.1.0 n.1.1.1)
+    (λ n. (n.0 < a) × ((n.1.0 < b) × ((n.1.1.0 < b) × (n.1.1.1 < b))))
 unfolding four_listed
-four_only a b w n la lb e = by_cut (cut_at 44 w) refl e
-  where
-    by_cut : (o : Option (List ℕ × List ℕ)) → cut_at 44 w ≡ o → four_parts a b o ≡ Ok n
-        → (w ≡ four_word n.0 n.1.0 n.1.1.0 n.1.1.1) × (n.0 < a) × (n.1.0 < b) × (n.1.1.0 < b) × (n.1.1.1 < b)
-    by_cut None i e = absurd cc
-    by_cut (Some p) i e =
-        let m = bind_ok (one_number 0 a p.0) (λ m. three_listed b b b p.1 >>= (λ k. Ok (m, k))) n e in
-        let k = bind_ok (three_listed b b b p.1) (λ k. Ok (m.0, k)) n m.2 in
-        let front = one_only 0 a m.0 p.0 la m.1 in
-        let back = three_only b b b p.1 k.0 lb lb lb k.1 in
-        subst (λ (q : ℕ × (ℕ × (ℕ × ℕ))). (w ≡ four_word q.0 q.1.0 q.1.1.0 q.1.1.1) × (q.0 < a) × (q.1.0 < b) × (q.1.1.0 < b) × (q.1.1.1 < b))
-        (fine_is {A = ℕ × (ℕ × (ℕ × ℕ))} (m.0, k.0) n k.2)
-        (cut_read 44 w p i ∙ ap (λ t. t ++ 44 ∷ p.1) front.0 ∙ ap (λ t. decimal m.0 ++ 44 ∷ t) back.0, front.2, back.1, back.2, back.3)
-
--- what is written is read
-
-comma : (a m : ℕ) (back : List ℕ) → a ≤ 2 ^ 32 → m < a → cut_at 44 (decimal m ++ 44 ∷ back) ≡ Some (decimal m, back)
-comma a m back l h = cut_again 44 (decimal m) back (decimal_lacks_below 44 m (lit< tt) (omega arith))
-
-pub two_so : (a b m n : ℕ) → a ≤ 2 ^ 32 → b ≤ 2 ^ 32 → m < a → n < b → two_listed a b (two_word m n) ≡ Ok (m, n)
-unfolding two_listed
-two_so a b m n la lb h k =
-    ap (two_parts a b) (comma a m (decimal n) la h)
-    ∙ then {B = ℕ × ℕ} (one_number 0 a (decimal m)) (λ x. one_number 0 b (decimal n) >>= (λ y. Ok (x, y))) m (Ok (m, n))
-    (one_so 0 a m la (omega arith) h)
-    (then {B = ℕ × ℕ} (one_number 0 b (decimal n)) (λ y. Ok (m, y)) n (Ok (m, n)) (one_so 0 b n lb (omega arith) k) refl)
-
-pub three_so : (a b c m n o : ℕ) → a ≤ 2 ^ 32 → b ≤ 2 ^ 32 → c ≤ 2 ^ 32 → m < a → n < b → o < c
-    → three_listed a b c (three_word m n o) ≡ Ok (m, (n, o))
-unfolding three_listed
-three_so a b c m n o la lb lc h k i =
-    ap (three_parts a b c) (comma a m (two_word n o) la h)
-    ∙ then {B = ℕ × (ℕ × ℕ)} (one_number 0 a (decimal m)) (λ x. two_listed b c (two_word n o) >>= (λ y. Ok (x, y))) m (Ok (m, (n, o)))
-    (one_so 0 a m la (omega arith) h)
-    (then {A = ℕ × ℕ} {B = ℕ × (ℕ × ℕ)} (two_listed b c (two_word n o)) (λ y. Ok (m, y)) (n, o) (Ok (m, (n, o))) (two_so b c n o lb lc k i)
-    refl)
-
-pub four_so : (a b m n o p : ℕ) → a ≤ 2 ^ 32 → b ≤ 2 ^ 32 → m < a → n < b → o < b → p < b
-    → four_listed a b (four_word m n o p) ≡ Ok (m, (n, (o, p)))
-unfolding four_listed
-four_so a b m n o p la lb h k i j =
-    ap (four_parts a b) (comma a m (three_word n o p) la h)
-    ∙ then {B = ℕ × (ℕ × (ℕ × ℕ))} (one_number 0 a (decimal m)) (λ x. three_listed b b b (three_word n o p) >>= (λ y. Ok (x, y))) m
-    (Ok (m, (n, (o, p)))) (one_so 0 a m la (omega arith) h)
-    (then {A = ℕ × (ℕ × ℕ)} {B = ℕ × (ℕ × (ℕ × ℕ))} (three_listed b b b (three_word n o p)) (λ y. Ok (m, y)) (n, (o, p))
-    (Ok (m, (n, (o, p)))) (three_so b b b n o p lb lb lb k i j) refl)
+four_read a b la lb = then_read a la (three_read b b b lb lb lb)
 
 -- what follows each name: only what is written is read
 
@@ -104,63 +72,69 @@ four_so a b m n o p la lb h k i j =
 abbrev Tells : List ℕ → List ℕ → Compared → Type 0
 Tells name w x = (name ++ 58 ∷ w ≡ comparison_word x) × ComparedFits x
 
+told_only : {B : Type 0} {read : List ℕ → Result B CertWhy} {word : B → List ℕ} {In : B → Type 0} → IsRead read word In
+    → (name : List ℕ) (make : B → Compared) → ((n : B) → name ++ 58 ∷ word n ≡ comparison_word (make n))
+    → ((n : B) → In n → ComparedFits (make n)) → (w : List ℕ) (x : Compared) → read w >>= (λ n. Ok (make n)) ≡ Ok x → Tells name w x
+told_only {B} {read} r name make spelled fits w x e =
+    let m = bind_ok (read w) (λ n. Ok (make n)) x e in
+    let n = r.only w m.0 m.1 in
+    subst (Tells name w) (fine_is (make m.0) x m.2) (ap (λ t. name ++ 58 ∷ t) n.0 ∙ spelled m.0, fits m.0 n.1)
+
 value_only : (w : List ℕ) (x : Compared) → value_told w ≡ Ok x → Tells (codes "tst") w x
 unfolding value_told
-value_only w x e =
-    let m = bind_ok (one_number 0 32 w) (λ d. Ok (told.Value d)) x e in
-    let d = one_only 0 32 m.0 w (lit≤ tt) m.1 in
-    subst (Tells (codes "tst") w) (fine_is (told.Value m.0) x m.2) (ap (λ t. codes "tst:" ++ t) d.0, d.2)
+value_only w x e = told_only (one_read 32 (lit≤ tt)) (codes "tst") (λ d. told.Value d) (λ n. refl) (λ n h. h) w x e
 
 register_only : (w : List ℕ) (x : Compared) → register_told w ≡ Ok x → Tells (codes "cp") w x
 unfolding register_told
 register_only w x e =
-    let m = bind_ok (two_listed 32 32 w) (λ n. Ok (told.Byte n.0 (Register n.1))) x e in
-    let n = two_only 32 32 w m.0 (lit≤ tt) (lit≤ tt) m.1 in
-    subst (Tells (codes "cp") w) (fine_is (told.Byte m.0.0 (Register m.0.1)) x m.2) (ap (λ t. codes "cp:" ++ t) n.0, (n.1, n.2))
+    told_only (two_read 32 32 (lit≤ tt) (lit≤ tt)) (codes "cp") (λ n. told.Byte n.0 (Register n.1)) (λ n. refl) (λ n h. h) w x e
 
 constant_only : (w : List ℕ) (x : Compared) → constant_told w ≡ Ok x → Tells (codes "cpi") w x
 unfolding constant_told
 constant_only w x e =
-    let m = bind_ok (two_listed 32 256 w) (λ n. Ok (told.Byte n.0 (Constant n.1))) x e in
-    let n = two_only 32 256 w m.0 (lit≤ tt) (lit≤ tt) m.1 in
-    subst (Tells (codes "cpi") w) (fine_is (told.Byte m.0.0 (Constant m.0.1)) x m.2)
-    (ap (λ t. codes "cpi:" ++ t) n.0, (n.1, omega (arith, n.2)))
+    told_only (two_read 32 256 (lit≤ tt) (lit≤ tt)) (codes "cpi") (λ n. told.Byte n.0 (Constant n.1)) (λ n. refl)
+    (λ n h. (h.0, omega (arith, h.1))) w x e
 
 registers_only : (w : List ℕ) (x : Compared) → registers_told w ≡ Ok x → Tells (codes "cpw") w x
 unfolding registers_told
 registers_only w x e =
-    let m = bind_ok (three_listed 31 32 32 w) (λ n. Ok (told.Pair n.0 (Register n.1.0) n.1.1)) x e in
-    let n = three_only 31 32 32 w m.0 (lit≤ tt) (lit≤ tt) (lit≤ tt) m.1 in
-    subst (Tells (codes "cpw") w) (fine_is (told.Pair m.0.0 (Register m.0.1.0) m.0.1.1) x m.2)
-    (ap (λ t. codes "cpw:" ++ t) n.0, (n.1, n.2, n.3))
+    told_only (three_read 31 32 32 (lit≤ tt) (lit≤ tt) (lit≤ tt)) (codes "cpw") (λ n. told.Pair n.0 (Register n.1.0) n.1.1) (λ n. refl)
+    (λ n h. (h.0, h.1.0, h.1.1)) w x e
 
 constants_only : (w : List ℕ) (x : Compared) → constants_told w ≡ Ok x → Tells (codes "cpiw") w x
 unfolding constants_told
 constants_only w x e =
-    let m = bind_ok (three_listed 31 256 32 w) (λ n. Ok (told.Pair n.0 (Constant n.1.0) n.1.1)) x e in
-    let n = three_only 31 256 32 w m.0 (lit≤ tt) (lit≤ tt) (lit≤ tt) m.1 in
-    subst (Tells (codes "cpiw") w) (fine_is (told.Pair m.0.0 (Constant m.0.1.0) m.0.1.1) x m.2)
-    (ap (λ t. codes "cpiw:" ++ t) n.0, (n.1, omega (arith, n.2), n.3))
+    told_only (three_read 31 256 32 (lit≤ tt) (lit≤ tt) (lit≤ tt)) (codes "cpiw") (λ n. told.Pair n.0 (Constant n.1.0) n.1.1) (λ n. refl)
+    (λ n h. (h.0, omega (arith, h.1.0), h.1.1)) w x e
+
+-- a register, a constant below a limit, and the ends of a range that are below it too
+abbrev Ranged : Type 0
+Ranged = ℕ × (ℕ × (ℕ × ℕ))
+
+ranged_only : (a top : ℕ) → a ≤ 2 ^ 32 → top + 1 ≤ 2 ^ 32 → (name : List ℕ) (make : Ranged → Compared)
+    → ((n : Ranged) → name ++ 58 ∷ four_word n.0 n.1.0 n.1.1.0 n.1.1.1 ≡ comparison_word (make n))
+    → ((n : Ranged) → n.0 < a → n.1.0 ≤ top → RangeFits top (ends n.1.1.0 n.1.1.1) → ComparedFits (make n))
+    → (w : List ℕ) (x : Compared) → four_listed a (top + 1) w >>= (λ n. in_range n.1.1.0 n.1.1.1 (make n)) ≡ Ok x → Tells name w x
+ranged_only a top la lt name make spelled fits w x e =
+    let m = bind_ok (four_listed a (top + 1) w) (λ n. in_range n.1.1.0 n.1.1.1 (make n)) x e in
+    let n = (four_read a (top + 1) la lt).only w m.0 m.1 in
+    let p = passed (leb m.0.1.1.0 m.0.1.1.1) (Ok (make m.0)) why.Order x m.2 in
+    subst (Tells name w) (fine_is (make m.0) x p.1) (
+      ap (λ t. name ++ 58 ∷ t) n.0 ∙ spelled m.0,
+      fits m.0 n.1.0 (omega (arith, n.1.1.0)) (record { order = le_is m.0.1.1.0 m.0.1.1.1 p.0; high = omega (arith, n.1.1.1.1) }),
+    )
 
 result_only : (w : List ℕ) (x : Compared) → result_told w ≡ Ok x → Tells (codes "sub") w x
 unfolding result_told
 result_only w x e =
-    let m = bind_ok (four_listed 32 256 w) (λ n. in_range n.1.1.0 n.1.1.1 (told.Result n.0 n.1.0 (ends n.1.1.0 n.1.1.1))) x e in
-    let n = four_only 32 256 w m.0 (lit≤ tt) (lit≤ tt) m.1 in
-    let said = told.Result m.0.0 m.0.1.0 (ends m.0.1.1.0 m.0.1.1.1) in
-    let p = passed (leb m.0.1.1.0 m.0.1.1.1) (Ok said) why.Order x m.2 in
-    subst (Tells (codes "sub") w) (fine_is said x p.1)
-    (ap (λ t. codes "sub:" ++ t) n.0, (n.1, omega (arith, n.2), record { order = le_is m.0.1.1.0 m.0.1.1.1 p.0; high = omega (arith, n.4) }))
+    ranged_only 32 255 (lit≤ tt) (lit≤ tt) (codes "sub") (λ n. told.Result n.0 n.1.0 (ends n.1.1.0 n.1.1.1)) (λ n. refl)
+    (λ n h k r. (h, k, r)) w x e
 
 results_only : (w : List ℕ) (x : Compared) → results_told w ≡ Ok x → Tells (codes "subw") w x
 unfolding results_told
 results_only w x e =
-    let m = bind_ok (four_listed 31 65536 w) (λ n. in_range n.1.1.0 n.1.1.1 (told.PairResult n.0 n.1.0 (ends n.1.1.0 n.1.1.1))) x e in
-    let n = four_only 31 65536 w m.0 (lit≤ tt) (lit≤ tt) m.1 in
-    let said = told.PairResult m.0.0 m.0.1.0 (ends m.0.1.1.0 m.0.1.1.1) in
-    let p = passed (leb m.0.1.1.0 m.0.1.1.1) (Ok said) why.Order x m.2 in
-    subst (Tells (codes "subw") w) (fine_is said x p.1)
-    (ap (λ t. codes "subw:" ++ t) n.0, (n.1, omega (arith, n.2), record { order = le_is m.0.1.1.0 m.0.1.1.1 p.0; high = omega (arith, n.4) }))
+    ranged_only 31 65535 (lit≤ tt) (lit≤ tt) (codes "subw") (λ n. told.PairResult n.0 n.1.0 (ends n.1.1.0 n.1.1.1)) (λ n. refl)
+    (λ n h k r. (h, k, r)) w x e
 
 -- the names
 
@@ -200,44 +174,43 @@ named_so : (name w : List ℕ) → lacks 58 name ≡ true → comparison (name +
 unfolding comparison
 named_so name w e = ap comparison_cut (cut_again 58 name w (lacks_is 58 name e))
 
+-- what is read after a name
+told_so : {B : Type 0} {read : List ℕ → Result B CertWhy} {word : B → List ℕ} {In : B → Type 0} → IsRead read word In
+    → (name : List ℕ) → lacks 58 name ≡ true → (make : B → Result Compared CertWhy) (n : B) (x : Compared) → In n
+    → ((w : List ℕ) → comparison_named name w ≡ read w >>= make) → make n ≡ Ok x → comparison (name ++ 58 ∷ word n) ≡ Ok x
+told_so {B} {read} {word} r name lack make n x i is made =
+    named_so name (word n) lack ∙ is (word n) ∙ then (read (word n)) make n (Ok x) (r.so n i) made
+
 pub comparison_so : (x : Compared) → ComparedFits x → is_nothing x ≡ false → comparison (comparison_word x) ≡ Ok x
 unfolding comparison_named pair_named value_told register_told constant_told registers_told constants_told result_told results_told
 comparison_so told.Nothing f o = absurd cc
 comparison_so (told.Value d) f o =
-    named_so (codes "tst") (decimal d) refl
-    ∙ then (one_number 0 32 (decimal d)) (λ n. Ok (told.Value n)) d (Ok (told.Value d)) (one_so 0 32 d (lit≤ tt) (omega arith) f) refl
+    told_so (one_read 32 (lit≤ tt)) (codes "tst") refl (λ n. Ok (told.Value n)) d (told.Value d) f (λ w. refl) refl
 comparison_so (told.Byte d (Register r)) f o =
-    named_so (codes "cp") (two_word d r) refl
-    ∙ then {A = ℕ × ℕ} (two_listed 32 32 (two_word d r)) (λ n. Ok (told.Byte n.0 (Register n.1))) (d, r) (Ok (told.Byte d (Register r)))
-    (two_so 32 32 d r (lit≤ tt) (lit≤ tt) f.0 f.1) refl
+    told_so (two_read 32 32 (lit≤ tt) (lit≤ tt)) (codes "cp") refl (λ n. Ok (told.Byte n.0 (Register n.1))) (d, r)
+    (told.Byte d (Register r)) f (λ w. refl) refl
 comparison_so (told.Byte d (Constant k)) f o =
-    named_so (codes "cpi") (two_word d k) refl
-    ∙ then {A = ℕ × ℕ} (two_listed 32 256 (two_word d k)) (λ n. Ok (told.Byte n.0 (Constant n.1))) (d, k) (Ok (told.Byte d (Constant k)))
-    (two_so 32 256 d k (lit≤ tt) (lit≤ tt) f.0 (omega (arith, f.1))) refl
+    told_so (two_read 32 256 (lit≤ tt) (lit≤ tt)) (codes "cpi") refl (λ n. Ok (told.Byte n.0 (Constant n.1))) (d, k)
+    (told.Byte d (Constant k)) (f.0, omega (arith, f.1)) (λ w. refl) refl
 comparison_so (told.Pair d (Register r) high) f o =
-    named_so (codes "cpw") (three_word d r high) refl
-    ∙ then {A = ℕ × (ℕ × ℕ)} (three_listed 31 32 32 (three_word d r high)) (λ n. Ok (told.Pair n.0 (Register n.1.0) n.1.1)) (d, (r, high))
-    (Ok (told.Pair d (Register r) high)) (three_so 31 32 32 d r high (lit≤ tt) (lit≤ tt) (lit≤ tt) f.0 f.1 f.2) refl
+    told_so (three_read 31 32 32 (lit≤ tt) (lit≤ tt) (lit≤ tt)) (codes "cpw") refl (λ n. Ok (told.Pair n.0 (Register n.1.0) n.1.1))
+    (d, (r, high)) (told.Pair d (Register r) high) (f.0, (f.1, f.2)) (λ w. refl) refl
 comparison_so (told.Pair d (Constant k) high) f o =
-    named_so (codes "cpiw") (three_word d k high) refl
-    ∙ then {A = ℕ × (ℕ × ℕ)} (three_listed 31 256 32 (three_word d k high)) (λ n. Ok (told.Pair n.0 (Constant n.1.0) n.1.1)) (d, (k, high))
-    (Ok (told.Pair d (Constant k) high)) (three_so 31 256 32 d k high (lit≤ tt) (lit≤ tt) (lit≤ tt) f.0 (omega (arith, f.1)) f.2) refl
+    told_so (three_read 31 256 32 (lit≤ tt) (lit≤ tt) (lit≤ tt)) (codes "cpiw") refl (λ n. Ok (told.Pair n.0 (Constant n.1.0) n.1.1))
+    (d, (k, high)) (told.Pair d (Constant k) high) (f.0, (omega (arith, f.1), f.2)) (λ w. refl) refl
 comparison_so (told.Result d k old) f o =
     let order : old.lo ≤ old.hi = f.2.order in
     let high : old.hi ≤ 255 = f.2.high in
-    named_so (codes "sub") (four_word d k old.lo old.hi) refl
-    ∙ then {A = ℕ × (ℕ × (ℕ × ℕ))} (four_listed 32 256 (four_word d k old.lo old.hi))
-    (λ n. in_range n.1.1.0 n.1.1.1 (told.Result n.0 n.1.0 (ends n.1.1.0 n.1.1.1))) (d, (k, (old.lo, old.hi))) (Ok (told.Result d k old))
-    (four_so 32 256 d k old.lo old.hi (lit≤ tt) (lit≤ tt) f.0 (omega (arith, f.1)) (omega (arith, order, high)) (omega (arith, high)))
+    told_so (four_read 32 256 (lit≤ tt) (lit≤ tt)) (codes "sub") refl
+    (λ n. in_range n.1.1.0 n.1.1.1 (told.Result n.0 n.1.0 (ends n.1.1.0 n.1.1.1))) (d, (k, (old.lo, old.hi))) (told.Result d k old)
+    (f.0, (omega (arith, f.1), (omega (arith, order, high), omega (arith, high)))) (λ w. refl)
     (so (leb old.lo old.hi) (Ok (told.Result d k old)) (Err why.Order) (is_le old.lo old.hi order))
 comparison_so (told.PairResult d k old) f o =
     let order : old.lo ≤ old.hi = f.2.order in
     let high : old.hi ≤ 65535 = f.2.high in
-    named_so (codes "subw") (four_word d k old.lo old.hi) refl
-    ∙ then {A = ℕ × (ℕ × (ℕ × ℕ))} (four_listed 31 65536 (four_word d k old.lo old.hi))
-    (λ n. in_range n.1.1.0 n.1.1.1 (told.PairResult n.0 n.1.0 (ends n.1.1.0 n.1.1.1))) (d, (k, (old.lo, old.hi)))
-    (Ok (told.PairResult d k old))
-    (four_so 31 65536 d k old.lo old.hi (lit≤ tt) (lit≤ tt) f.0 (omega (arith, f.1)) (omega (arith, order, high)) (omega (arith, high)))
+    told_so (four_read 31 65536 (lit≤ tt) (lit≤ tt)) (codes "subw") refl
+    (λ n. in_range n.1.1.0 n.1.1.1 (told.PairResult n.0 n.1.0 (ends n.1.1.0 n.1.1.1))) (d, (k, (old.lo, old.hi))) (told.PairResult d k old)
+    (f.0, (omega (arith, f.1), (omega (arith, order, high), omega (arith, high)))) (λ w. refl)
     (so (leb old.lo old.hi) (Ok (told.PairResult d k old)) (Err why.Order) (is_le old.lo old.hi order))
 
 -- by default nothing is told

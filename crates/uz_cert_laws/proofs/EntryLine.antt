@@ -1,38 +1,26 @@
 -- The line of an entry.
-use Rattle.uz_cert_laws.proofs.Common.{◌≡◌, ℕ, zero, suc, ◌<◌, ◌≤◌, Bool, true, false, cond, ◌&&◌, eqb, List, [], ◌∷◌, ◌++◌, map}
-use Rattle.uz_cert_laws.proofs.Common.{length, decimal, codes, lit<, lit≤, refl, sym, ◌∙◌, ap, subst, append-nil, arith, Ok, All-nil}
-use Rattle.uz_cert_laws.proofs.Common.{All-cons, All-head, All-tail, Ends, clock_limit, RangeFits, CellFits, BitFits}
-use Rattle.uz_cert_laws.proofs.Common.{Kind, Main, Handler, Alone, Cell, Head, Fact, PairFact, Words, choice_of, range_fact, is_handler}
-use Rattle.uz_cert_laws.proofs.Common.{bytes_forms, LineForm, number, items, reads, within, one_of, none_in_main, span_of_fact, FactForms}
-use Rattle.uz_cert_laws.proofs.Common.{Facts, ParsedLine, kind_word, register_items, pair_items, flag_items, slot_items, cell_items}
-use Rattle.uz_cert_laws.proofs.Common.{listed_items, successor_items, named_items, NamedValues, named_of, usual_facts}
-use Rattle.std.specs.Prelude.{All}
+use Rattle.uz_cert_laws.proofs.Common.{◌≡◌, ℕ, zero, suc, ◌<◌, ◌≤◌, Bool, true, false, cond, ◌&&◌, eqb, List, [], ◌∷◌, ◌++◌, map, length}
+use Rattle.uz_cert_laws.proofs.Common.{decimal, codes, lit<, lit≤, refl, sym, ◌∙◌, ap, subst, append-nil, arith, Ok, All-nil, All-cons}
+use Rattle.uz_cert_laws.proofs.Common.{All-head, All-tail, Ends, clock_limit, RangeFits, CellFits, BitFits, Kind, Main, Handler, Alone}
+use Rattle.uz_cert_laws.proofs.Common.{Cell, Head, Fact, Words, choice_of, range_fact, is_handler, bytes_forms, LineForm, number, items}
+use Rattle.uz_cert_laws.proofs.Common.{reads, within, one_of, none_in_main, span_of_fact, FactForms, Facts, ParsedLine, kind_word}
+use Rattle.uz_cert_laws.proofs.Common.{register_items, pair_items, flag_items, slot_items, cell_items, listed_items, successor_items}
+use Rattle.uz_cert_laws.proofs.Common.{named_items, named_of, usual_facts, All, AnyPair, line, PlacesAre, word_at, Parts, says, spells}
+use Rattle.uz_cert_laws.proofs.Common.{letters_of_pairs, letters_of_flags, spelled}
 use Rattle.std.proofs.lemmas.List.{length-map}
-use Rattle.uz_schedule.specs.Tracked.{tracked, depth_of}
 use Rattle.uz_schedule.specs.WellFormed.{SpansFit, EntryKindFits, EntryFactsFit, EntryFits}
-use Rattle.uz_schedule.specs.declared.facts.PairFact.TheVariants.{Any as AnyPair}
-use Rattle.uz_schedule.specs.declared.states.Entry.{Entry}
 use Rattle.uz_cert_lines.specs.Lines.{shape_of, entry_of, entry_kind, entry_form}
-use Rattle.uz_cert_lines.specs.declared.lines.ParsedLine.TheVariants as parsed
-use Rattle.uz_cert_writer.specs.Spelling.{range_facts}
-use Rattle.uz_cert_writer.specs.Spelling.{entry_items, entry_words}
-use Rattle.uz_cert_laws.proofs.Named.{say_usuals, usuals, left_out}
-use Rattle.uz_cert_laws.specs.LineWords.{line, PlacesAre}
-use Rattle.uz_cert_laws.proofs.Tests.{both_of, fine, true_not}
-use Rattle.uz_cert_laws.specs.Spells.{word_at, Parts, says, spells}
-use Rattle.uz_cert_laws.proofs.ReadItems.{ShapeFits}
-use Rattle.uz_cert_laws.proofs.SpelledItems.{FactsFit}
-use Rattle.uz_cert_laws.proofs.Spans.{bytes_of}
-use Rattle.uz_cert_laws.proofs.Steps.{is_within as within_so, one_so}
+use Rattle.uz_cert_writer.specs.Spelling.{range_facts, entry_items, entry_words}
 use Rattle.uz_cert_laws.proofs.FormLaws.{Fit, SaysFacts, IsReadable, form_again, form_only}
-use Rattle.uz_cert_laws.proofs.Facts.{FactIn, BitIn}
-use Rattle.uz_cert_laws.proofs.Options.{each_length, each_other}
-use Rattle.uz_cert_laws.proofs.Spelled.{registers, numbered_cells}
-use Rattle.uz_cert_laws.proofs.ItemForms.{cell_form}
-use Rattle.uz_cert_laws.specs.Spells.{letters_of_pairs, letters_of_flags, listed_and_next, spelled}
 use Rattle.uz_cert_laws.proofs.Fitting.{each_of_all, all_of_each, all_other, all_map, map_back, bit_in, bit_out, range_in, SaysRange}
 use Rattle.uz_cert_laws.proofs.Fitting.{says_range, span_back, entry_cell, entry_form_is, spans_in, spans_out, under_none, none_under}
 use Rattle.uz_cert_laws.proofs.Fitting.{none_small}
+use Rattle.uz_cert_laws.proofs.Numbers.{is_within as within_so, one_of_so}
+use Rattle.uz_schedule.specs.{declared.states.Entry.Entry, Tracked.tracked, Tracked.depth_of}
+use Rattle.uz_cert_laws.proofs.{Spans.bytes_of, ReadItems.ShapeFits, ItemForms.cell_form, SpelledItems.FactsFit, Facts.FactIn}
+use Rattle.uz_cert_laws.proofs.{Facts.BitIn, Sections.each_length, Sections.each_other, Tests.both_of, Tests.fine, Tests.true_not}
+use Rattle.uz_cert_laws.proofs.{Spelled.registers, Spelled.numbered_cells, Named.say_usuals, Named.usuals, Named.left_out}
+use Rattle.uz_cert_lines.specs.declared.lines.ParsedLine.TheVariants as parsed
 
 -- an entry after the word for its kind
 
@@ -107,42 +95,14 @@ entry_items_are cells e =
 
 entry_back : (h : Head) (e : Entry) → EntryFactsFit h e → entry_of e.kind e.id e.pc e.line e.clock (facts_of e) ≡ e
 unfolding entry_of
-entry_back h e f =
-    with_lists (map span_of_fact (range_facts e.regs)) (map span_of_fact (range_facts e.stack.items))
-    (map span_of_fact (range_facts e.cells.items))
-    (back e.regs f.ranges) (back e.stack.items f.stack) (back e.cells.items f.cells.ranges)
+entry_back h e f = λ i. record e {
+  regs = back e.regs f.ranges i;
+  stack = record { items = back e.stack.items f.stack i };
+  cells = record { items = back e.cells.items f.cells.ranges i };
+}
   where
-    make : List Ends → List Ends → List Ends → Entry
-    make regs stack cells = record {
-      kind = e.kind;
-      id = e.id;
-      pc = e.pc;
-      line = e.line;
-      clock = e.clock;
-      regs = regs;
-      flags = e.flags;
-      stack = record { items = stack };
-      cells = record { items = cells };
-    }
-
     back : (es : List Ends) → All (RangeFits 255) es → map span_of_fact (map range_fact es) ≡ es
     back es a = map_back (RangeFits 255) range_fact span_of_fact es (λ x r. span_back x) a
-
-    with_lists : (rs ss cs : List Ends) → rs ≡ e.regs → ss ≡ e.stack.items → cs ≡ e.cells.items
-        → record {
-          kind = e.kind;
-          id = e.id;
-          pc = e.pc;
-          line = e.line;
-          clock = e.clock;
-          regs = rs;
-          flags = e.flags;
-          stack = record { items = ss };
-          cells = record { items = cs };
-        } ≡ e
-    with_lists rs ss cs p q r =
-        ap (λ (x : List Ends). make x ss cs) p ∙ ap (λ (x : List Ends). make e.regs x cs) q
-        ∙ ap (λ (x : List Ends). make e.regs e.stack.items x) r
 
 entry_says : (kind : Kind) (id pc line clock : ℕ) → SaysFacts (λ f. parsed.Entry (entry_of kind id pc line clock f))
 unfolding entry_of
@@ -169,7 +129,7 @@ not_handler n e = by_test (eqb n 0) e
     by_test false e = absurd cc
 
 pub entry_sound : (h : Head) (lines points : ℕ) → PlacesAre h lines points → IsReadable (entry_form h lines points)
-entry_sound h lines points a = (refl, ((refl, (refl, tt)), λ n. after_sound h lines points (entry_kind n) a (not_handler n)))
+entry_sound h lines points a = λ n. after_sound h lines points (entry_kind n) a (not_handler n)
 
 entry_so : (h : Head) (lines points : ℕ) (kind : Kind) (e : Entry) (q : Parts (entry_after h lines points kind)) → PlacesAre h lines points
     → EntryKindFits kind e → Fit (entry_after h lines points kind) q
@@ -192,7 +152,7 @@ entry_again h lines points e a f =
     (line (codes "entry" ∷ kind_word kind ∷ decimal e.id ∷ decimal e.pc ∷ decimal e.line ∷ decimal e.clock ∷ ws)))
     (entry_items_are h.cells.items e)
     ∙ entry_so h lines points kind e (e.id, (e.pc, (e.line, (e.clock, facts_of e)))) a f.kind
-    (both_of (one_so points e.id (omega arith) f.id) (both_of (within_so 0 32768 e.pc (lit≤ tt) (omega arith) f.pc)
+    (both_of (one_of_so points e.id (omega arith) f.id) (both_of (within_so 0 32768 e.pc (lit≤ tt) (omega arith) f.pc)
     (both_of (within_so 0 (none_in_main kind lines) e.line lines_small (omega arith)
     (under_none kind lines e.line (λ m. (at_begin kind e f.kind m).0) f.line))
     (both_of (within_so 0 (none_in_main kind clock_limit) e.clock clocks_small (omega arith)
@@ -271,37 +231,10 @@ spelled_entry : (h : Head) (kind : Kind) (points id pc line clock : ℕ) (f : Fa
     → spelled kind h.cells.items f ≡ entry_items h.cells.items (entry_of kind id pc line clock f)
 unfolding entry_of
 spelled_entry h kind points id pc line clock f s =
-    let cells = h.cells.items in
-    ap (λ (ps : List PairFact). register_items kind 0 f.regs ++ (pair_items letters_of_pairs ps ++ (flag_items kind letters_of_flags f.flags
-    ++ (slot_items f.stack.items ++ (cell_items kind 0 cells f.cells.items ++ listed_and_next f))))) s.pairs
-    ∙ ap (λ (ws : List (List ℕ)). register_items kind 0 f.regs ++ (flag_items kind letters_of_flags f.flags
-    ++ (slot_items f.stack.items ++ (cell_items kind 0 cells f.cells.items ++ ws))))
-    (ap (λ (v : NamedValues named_items). listed_items named_items v ++ successor_items f.next.items) s.listed ∙ ap successor_items s.next)
-    ∙ ap (λ (ws : List (List ℕ)). register_items kind 0 f.regs
-    ++ (flag_items kind letters_of_flags f.flags ++ (slot_items f.stack.items ++ ws)))
-    (append-nil (cell_items kind 0 cells f.cells.items))
-    ∙ ap (λ (rs : List Fact). register_items kind 0 rs
-    ++ (flag_items kind letters_of_flags f.flags ++ (slot_items f.stack.items ++ cell_items kind 0 cells f.cells.items)))
-    (sym s.regs_back)
-    ∙ ap (λ (ss : List Fact). register_items kind 0 (range_facts (map span_of_fact f.regs))
-    ++ (flag_items kind letters_of_flags f.flags ++ (slot_items ss ++ cell_items kind 0 cells f.cells.items)))
-    (sym s.stack_back)
-    ∙ ap (λ (cs : List Fact). register_items kind 0 (range_facts (map span_of_fact f.regs)) ++ (flag_items kind letters_of_flags f.flags
-    ++ (slot_items (range_facts (map span_of_fact f.stack.items)) ++ cell_items kind 0 cells cs))) (sym s.cells_back)
-
-entry_facts_fit : (h : Head) (kind : Kind) (points id pc line clock : ℕ) (f : Facts) → FactsSaid h kind points f → EntryFactsFit h
-    (entry_of kind id pc line clock f)
-unfolding entry_of
-entry_facts_fit h kind points id pc line clock f s =
-    record {
-      registers = s.regs_count;
-      ranges = s.regs_fit;
-      flag_count = s.flag_count;
-      flags = s.flags_fit;
-      slots = s.slots;
-      stack = s.stack_fit;
-      cells = s.cells_fit;
-    }
+    (λ i. register_items kind 0 (sym s.regs_back i) ++ (pair_items letters_of_pairs (s.pairs i) ++ (flag_items kind letters_of_flags f.flags
+    ++ (slot_items (sym s.stack_back i) ++ (cell_items kind 0 h.cells.items (sym s.cells_back i)
+    ++ (listed_items named_items (s.listed i) ++ successor_items (s.next i)))))))
+    ∙ sym (entry_items_are h.cells.items (entry_of kind id pc line clock f))
 
 entry_fits : (h : Head) (lines points : ℕ) (kind : Kind) (id pc line clock : ℕ) (f : Facts) → FactsSaid h kind points f
     → (kind ≡ Handler → true ≡ false)
@@ -315,7 +248,15 @@ entry_fits h lines points kind id pc line clock f s n i p l c =
       pc = p;
       line = l.0;
       clock = c.0;
-      facts = entry_facts_fit h kind points id pc line clock f s;
+      facts = record {
+        registers = s.regs_count;
+        ranges = s.regs_fit;
+        flag_count = s.flag_count;
+        flags = s.flags_fit;
+        slots = s.slots;
+        stack = s.stack_fit;
+        cells = s.cells_fit;
+      };
     }
 
 pub entry_only : (h : Head) (lines points : ℕ) (words : Words) (says : ParsedLine) → PlacesAre h lines points → 1 ≤ lines

@@ -1,21 +1,15 @@
 -- What a well formed certificate lets be said of states is what the forms of their lines let in, and the other way round.
 use Rattle.uz_cert_laws.proofs.Common.{◌≡◌, ℕ, suc, ◌+◌, ◌-◌, ◌*◌, ◌/◌, ◌<◌, ◌≤◌, ◌^◌, Bool, true, false, cond, not, ◌&&◌, eqb, leb, List}
 use Rattle.uz_cert_laws.proofs.Common.{[], ◌∷◌, map, length, filter, lit<, lit≤, refl, sym, ◌∙◌, ap, subst, arith, All-nil, All-cons}
-use Rattle.uz_cert_laws.proofs.Common.{All-head, All-tail, Ends, is_within, tracks, RangeFits, FactFits, PairFits, BitFits, spans_fit, Kind}
-use Rattle.uz_cert_laws.proofs.Common.{Main, Handler, Alone, Cell, Fact, Any, Between, Line, Loop, Old, OldFlags, PairFact, Bit, Zero, One}
-use Rattle.uz_cert_laws.proofs.Common.{Free, range_fact, is_handler, bytes_forms, pair_forms, none_in_main, span_of_fact, FactForms, Shape}
-use Rattle.std.proofs.Common.{mul_comm}
-use Rattle.std.specs.Prelude.{All}
-use Rattle.std.proofs.lemmas.Nat.{div_below, le-div}
+use Rattle.uz_cert_laws.proofs.Common.{All-head, All-tail, Ends, is_within, tracks, RangeFits, FactFits, PairFits, BitFits, spans_fit}
+use Rattle.uz_cert_laws.proofs.Common.{Kind, Main, Handler, Alone, Cell, Fact, Any, Between, Line, Loop, Old, OldFlags, PairFact, Bit}
+use Rattle.uz_cert_laws.proofs.Common.{Zero, One, Free, range_fact, is_handler, bytes_forms, pair_forms, none_in_main, span_of_fact}
+use Rattle.uz_cert_laws.proofs.Common.{FactForms, Shape, All, AnyPair, BetweenPair, LinePair, LoopPair, OldBit}
 use Rattle.uz_schedule.specs.WellFormed.{CellFactFits}
-use Rattle.uz_schedule.specs.declared.facts.PairFact.TheVariants.{Any as AnyPair, Between as BetweenPair, Line as LinePair}
-use Rattle.uz_schedule.specs.declared.facts.PairFact.TheVariants.{Loop as LoopPair}
-use Rattle.uz_schedule.specs.declared.facts.Bit.TheVariants.{Old as OldBit}
 use Rattle.uz_cert_laws.proofs.Tests.{and_true, both_true, true_not, le_is, is_le, else_so, number_is, not_le}
 use Rattle.uz_cert_laws.proofs.Facts.{FactIn, PairIn, BitIn, part_from, part_not_whole, whole_ends}
-use Rattle.uz_cert_laws.proofs.Options.{Each, each_length, each_other}
-use Rattle.uz_cert_laws.proofs.Spelled.{numbered_cells}
-use Rattle.uz_cert_laws.proofs.ItemForms.{cell_form}
+use Rattle.uz_cert_laws.proofs.{ItemForms.cell_form, Spelled.numbered_cells, Sections.Each, Sections.each_length, Sections.each_other}
+use Rattle.std.proofs.{Common.mul_comm, lemmas.Nat.div_below, lemmas.Nat.le-div}
 
 -- lists
 

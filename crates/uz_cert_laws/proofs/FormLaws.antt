@@ -1,21 +1,14 @@
 -- What is spelled in a form is read back, and only what is spelled is read: by one step for each constructor.
-use Rattle.uz_cert_laws.proofs.Common.{◌≡◌, ℕ, ◌≤◌, ◌<◌, ◌^◌, Bool, true, false, List, [], ◌∷◌, ◌++◌, map, decimal, refl, sym, ◌∙◌, ap}
-use Rattle.uz_cert_laws.proofs.Common.{subst, ⊤, Result, Ok, Ends, RangeFits, magnitude, spans_fit, ◌>>=◌, Words, rest_of, next_as}
-use Rattle.uz_cert_laws.proofs.Common.{fixed_of, number_of, choice_of, slope_of, CertWhy, LineForm, number, items, finish, reads, spans_of}
-use Rattle.uz_cert_laws.proofs.Common.{read_items, Facts, ParsedLine, ends_word, signed_word, plain, EachPlain, each_plain_append}
-use Rattle.std.proofs.Common.{ℤ}
-use Rattle.std.specs.Prelude.{All}
-use Rattle.uz_cert_lines.specs.declared.why.CertWhy.TheVariants as why
+use Rattle.uz_cert_laws.proofs.Common.{◌≡◌, ℕ, ◌≤◌, ◌<◌, ◌^◌, Bool, true, false, List, [], ◌∷◌, ◌++◌, map, decimal, refl, sym, ◌∙◌, ap, ⊤}
+use Rattle.uz_cert_laws.proofs.Common.{Result, Ok, Ends, RangeFits, magnitude, spans_fit, ◌>>=◌, Words, rest_of, next_as, fixed_of}
+use Rattle.uz_cert_laws.proofs.Common.{number_of, choice_of, slope_of, CertWhy, LineForm, number, items, finish, reads, spans_of}
+use Rattle.uz_cert_laws.proofs.Common.{read_items, Facts, ParsedLine, ends_word, signed_word, ℤ, All, line, word_at, Parts, says, spells}
 use Rattle.uz_cert_lines.specs.Forms.{fixed, choice, slope, spans}
-use Rattle.uz_cert_laws.specs.LineWords.{line}
-use Rattle.uz_cert_laws.specs.Spells.{word_at, Parts, says, spells}
-use Rattle.uz_cert_laws.proofs.Tests.{fine_is, fault_not, bind_ok, then}
-use Rattle.uz_cert_laws.proofs.Numbers.{IsWithin, number_so, number_only, slope_so, slope_only}
-use Rattle.uz_cert_laws.proofs.ReadItems.{ShapeFits, items_only}
-use Rattle.uz_cert_laws.proofs.SpelledItems.{FactsFit, items_again}
-use Rattle.uz_cert_laws.proofs.Plains.{plain_read, plain_at, plain_signed, plain_spans, plain_items}
-use Rattle.uz_cert_laws.proofs.Spans.{Bytes, own, spans_read, spans_gone}
-use Rattle.uz_cert_laws.proofs.Steps.{words_in, line_same, fixed_word, fixed_is, choice_word, with_front}
+use Rattle.uz_cert_laws.proofs.Numbers.{IsWithin, number_so, number_only, slope_so, slope_only, words_in, line_same, fixed_word, fixed_is}
+use Rattle.uz_cert_laws.proofs.Numbers.{choice_word, with_front}
+use Rattle.uz_cert_laws.proofs.{ReadItems.ShapeFits, ReadItems.items_only, SpelledItems.FactsFit, SpelledItems.items_again, Tests.fine_is}
+use Rattle.uz_cert_laws.proofs.{Tests.fault_not, Tests.bind_ok, Tests.then, Spans.Bytes, Spans.own, Spans.spans_read, Spans.spans_gone}
+use Rattle.uz_cert_lines.specs.declared.why.CertWhy.TheVariants as why
 
 -- each part is within its limits
 abbrev pub Fit : (form : LineForm) → Parts form → Type 0
@@ -31,11 +24,11 @@ Fit (finish said) p = ⊤
 abbrev pub SaysFacts : (Facts → ParsedLine) → Type 0
 SaysFacts say = (f : Facts) (least after : ℕ) → say (record f { least = least; after = after }) ≡ say f
 
--- the words that are due have no blank, and the numbers that are asked for are few enough to be read
+-- the numbers that are asked for are few enough to be read
 abbrev pub IsReadable : LineForm → Type 0
-IsReadable (fixed wanted form) = (plain wanted ≡ true) × IsReadable form
+IsReadable (fixed wanted form) = IsReadable form
 IsReadable (number a form) = (a.limit ≤ 2 ^ 32) × ((n : ℕ) → IsWithin a n → IsReadable (form n))
-IsReadable (choice wanted form) = EachPlain wanted × ((n : ℕ) → IsReadable (form n))
+IsReadable (choice wanted form) = (n : ℕ) → IsReadable (form n)
 IsReadable (slope limit form) = (limit ≤ 2 ^ 32) × ((z : ℤ) → IsReadable (form z))
 IsReadable (spans cells form) = Bytes cells × ((es : List Ends) → IsReadable (form es))
 IsReadable (items shape cells say) = ShapeFits shape cells × SaysFacts say
@@ -46,13 +39,13 @@ Pieces = List Ends × Words
 
 pub form_again : (form : LineForm) (p : Parts form) → IsReadable form → Fit form p → reads form (line (spells form p)) ≡ Ok (says form p)
 form_again (fixed wanted form) p s f =
-    then (fixed_of wanted wanted) (λ n. reads form (line (spells form p))) 0 (Ok (says form p)) (fixed_word wanted) (form_again form p s.1 f)
+    then (fixed_of wanted wanted) (λ n. reads form (line (spells form p))) 0 (Ok (says form p)) (fixed_word wanted) (form_again form p s f)
 form_again (number a form) p s f =
     then (number_of a (decimal p.0)) (λ n. reads (form n) (line (spells (form p.0) p.1))) p.0 (Ok (says (form p.0) p.1))
     (number_so a p.0 s.0 f.0) (form_again (form p.0) p.1 (s.1 p.0 f.0) f.1)
 form_again (choice wanted form) p s f =
     then (choice_of wanted (word_at wanted p.0)) (λ n. reads (form n) (line (spells (form p.0) p.1))) p.0 (Ok (says (form p.0) p.1)) f.0
-    (form_again (form p.0) p.1 (s.1 p.0) f.1)
+    (form_again (form p.0) p.1 (s p.0) f.1)
 form_again (slope limit form) p s f =
     then (slope_of limit (signed_word p.0)) (λ z. reads (form z) (line (spells (form p.0) p.1))) p.0 (Ok (says (form p.0) p.1))
     (slope_so limit p.0 s.0 f.0) (form_again (form p.0) p.1 (s.1 p.0) f.1)
@@ -96,7 +89,7 @@ only : (form : LineForm) (list : List (List ℕ)) (ended : Bool) (said : ParsedL
     → Read form list ended said
 only (fixed wanted form) list ended said s e =
     let d = due (fixed_of wanted) (λ n words. reads form words) list ended said e in
-    let r = only form d.left ended said s.1 d.rest in
+    let r = only form d.left ended said s d.rest in
     record {
       parts = r.parts;
       told = r.told;
@@ -118,7 +111,7 @@ only (number a form) list ended said s e =
 only (choice wanted form) list ended said s e =
     let d = due (choice_of wanted) (λ n words. reads (form n) words) list ended said e in
     let w = choice_word wanted d.word d.is d.judged in
-    let r = only (form d.is) d.left ended said (s.1 d.is) d.rest in
+    let r = only (form d.is) d.left ended said (s d.is) d.rest in
     record {
       parts = (d.is, r.parts);
       told = r.told;
@@ -180,20 +173,3 @@ pub form_only : (form : LineForm) (words : Words) (said : ParsedLine) → IsRead
 form_only form words said s e =
     let r = only form words.list words.ended said s e in
     (r.parts, r.told, line_same words.list (spells form r.parts) words.ended r.words r.end, r.fit)
-
--- the words of a line that is read have no blank
-
-form_plain : (form : LineForm) (p : Parts form) → IsReadable form → Fit form p → EachPlain (spells form p)
-form_plain (fixed wanted form) p s f = (s.0, form_plain form p s.1 f)
-form_plain (number a form) p s f = (plain_read p.0 a.limit s.0 f.0.below, form_plain (form p.0) p.1 (s.1 p.0 f.0) f.1)
-form_plain (choice wanted form) p s f = (plain_at wanted p.0 s.0, form_plain (form p.0) p.1 (s.1 p.0) f.1)
-form_plain (slope limit form) p s f = (plain_signed p.0 limit s.0 f.0, form_plain (form p.0) p.1 (s.1 p.0) f.1)
-form_plain (spans cells form) p s f =
-    each_plain_append (map (ends_word 255) p.0) (spells (form p.0) p.1) (plain_spans p.0 f.0.0) (form_plain (form p.0) p.1 (s.1 p.0) f.1)
-form_plain (items shape cells say) g s f = plain_items shape cells g s.0 f
-form_plain (finish said) p s f = tt
-
-pub read_plain : (form : LineForm) (words : Words) (said : ParsedLine) → IsReadable form → reads form words ≡ Ok said → EachPlain words.list
-read_plain form words said s e =
-    let r = form_only form words said s e in
-    subst (λ w. EachPlain w.list) (sym r.2) (form_plain form r.0 s r.3)

@@ -1,31 +1,24 @@
 -- Facts as they grow while items are read: what is spelled of them is what was read.
-use Rattle.uz_cert_laws.proofs.Common.{◌≡◌, ℕ, suc, ◌+◌, ◌-◌, ◌<◌, ◌≤◌, true, leb, List, [], ◌∷◌, ◌++◌, map, length, decimal}
-use Rattle.uz_cert_laws.proofs.Common.{codes, lit≤, refl, sym, ◌∙◌, ap, subst, add-one, length-append, arith, slice_set, rises_from, rises}
-use Rattle.uz_cert_laws.proofs.Common.{Cell, Fact, PairFact, Bit, is_default, is_handler, bytes_forms, pair_forms, tracked_before, Shape}
-use Rattle.uz_cert_laws.proofs.Common.{Facts, register_item, pair_item, flag_item, fact_word, register_items, pair_items, flag_items}
-use Rattle.uz_cert_laws.proofs.Common.{slot_items, cell_items, successor_items, named_items, named_place, successors_place, NamedValues}
-use Rattle.uz_cert_laws.proofs.Common.{named_of, with_named}
-use Rattle.std.proofs.lemmas.List.{map-append}
-use Rattle.std.specs.Prelude.{IsTrue, All}
-use Rattle.std.proofs.lemmas.List.Elements.{All-push}
-use Rattle.std.proofs.lemmas.Option.{slice_get-get_or}
+use Rattle.uz_cert_laws.proofs.Common.{◌≡◌, ℕ, suc, ◌+◌, ◌-◌, ◌<◌, ◌≤◌, true, leb, List, [], ◌∷◌, ◌++◌, map, length, decimal, codes, lit≤}
+use Rattle.uz_cert_laws.proofs.Common.{refl, sym, ◌∙◌, ap, subst, add-one, length-append, arith, slice_set, rises_from, rises, Cell, Fact}
+use Rattle.uz_cert_laws.proofs.Common.{PairFact, Bit, is_default, is_handler, bytes_forms, pair_forms, tracked_before, Shape, Facts}
+use Rattle.uz_cert_laws.proofs.Common.{register_item, pair_item, flag_item, fact_word, register_items, pair_items, flag_items, slot_items}
+use Rattle.uz_cert_laws.proofs.Common.{cell_items, successor_items, named_items, named_place, successors_place, NamedValues, named_of}
+use Rattle.uz_cert_laws.proofs.Common.{with_named, All, letters_of_pairs, letters_of_flags, spelled}
+use Rattle.std.specs.Prelude.{IsTrue}
 use Rattle.uz_cert_laws.specs.LineWords.{least_after}
-use Rattle.uz_cert_laws.specs.Spells.{letters_of_pairs, letters_of_flags, spelled}
-use Rattle.uz_cert_laws.proofs.Tests.{both_of, and_true, both_true, is_le, true_not}
-use Rattle.uz_cert_laws.proofs.Facts.{FactIn, PairIn, BitIn}
-use Rattle.uz_cert_laws.proofs.Named.{listed_section, listed_is, SetsOne, sets_between, sets_more}
-use Rattle.uz_cert_laws.proofs.Spelled.{registers, numbered_cells, any_pair, usual_flag, in_range}
-use Rattle.uz_cert_laws.proofs.Spelled.{cell_word, usual_fact, usual_pair, usual_bit, usual_cell, registers_are}
-use Rattle.uz_cert_laws.proofs.Spelled.{cells_are, register_default, flag_default, range_default, register_at, cell_number}
-use Rattle.uz_cert_laws.proofs.Spelled.{cells_before_next, cells_before_rise}
-use Rattle.uz_cert_laws.proofs.ItemForms.{with_register, with_pair, with_flag, with_slot, with_cell, with_successor}
-use Rattle.uz_cert_laws.proofs.ItemForms.{RegisterForm, PairForm, listed}
-use Rattle.uz_cert_laws.proofs.ItemForms.{FlagForm, SlotForm, CellForm, SuccessorForm, HasForm, register, pair, flag, slot, cell, successor}
-use Rattle.uz_cert_laws.proofs.ItemForms.{cell_form, pair_letter, flag_letter}
+use Rattle.uz_cert_laws.proofs.Spelled.{registers, numbered_cells, any_pair, usual_flag, in_range, cell_word, usual_fact, usual_pair}
+use Rattle.uz_cert_laws.proofs.Spelled.{usual_bit, usual_cell, registers_are, cells_are, register_default, flag_default, range_default}
+use Rattle.uz_cert_laws.proofs.Spelled.{register_at, cell_number, cells_before_next, cells_before_rise}
+use Rattle.uz_cert_laws.proofs.ItemForms.{with_register, with_pair, with_flag, with_slot, with_cell, with_successor, RegisterForm}
+use Rattle.uz_cert_laws.proofs.ItemForms.{PairForm, listed, FlagForm, SlotForm, CellForm, SuccessorForm, HasForm, register, pair, flag}
+use Rattle.uz_cert_laws.proofs.ItemForms.{slot, cell, successor, cell_form, pair_letter, flag_letter}
 use Rattle.uz_cert_laws.proofs.Sections.{Section, IsSection, Sections, last, section, Values, FitAll, AreSections, TypeAt, section_at}
-use Rattle.uz_cert_laws.proofs.Sections.{value_at, with_value, after_from, Grown, grown}
-use Rattle.uz_cert_laws.proofs.Options.{OptionList, AreOptions}
-use Rattle.uz_cert_laws.proofs.Sections.{option_section, options_are, option_more}
+use Rattle.uz_cert_laws.proofs.Sections.{value_at, with_value, after_from, Grown, grown, option_section, options_are, option_more}
+use Rattle.uz_cert_laws.proofs.Sections.{OptionList, AreOptions}
+use Rattle.uz_cert_laws.proofs.{Facts.FactIn, Facts.PairIn, Facts.BitIn, Tests.both_of, Tests.and_true, Tests.both_true, Tests.is_le}
+use Rattle.uz_cert_laws.proofs.{Tests.true_not, Named.listed_section, Named.listed_is, Named.SetsOne, Named.sets_between, Named.sets_more}
+use Rattle.std.proofs.{lemmas.List.map-append, lemmas.List.Elements.All-push, lemmas.Option.slice_get-get_or}
 
 -- numbers that rise
 

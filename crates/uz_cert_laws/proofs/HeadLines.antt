@@ -1,31 +1,24 @@
 -- The lines of sizes, response, stack and cells.
-use Rattle.uz_cert_laws.proofs.Common.{◌≡◌, ◌⊎◌, inl, inr, ℕ, zero, suc, ◌+◌, ◌-◌, ◌<◌, ◌≤◌, ◌≢◌, eqb, Bool, true, false, cond, List}
-use Rattle.uz_cert_laws.proofs.Common.{[], ◌∷◌, decimal, codes, lit<, lit≤, refl, sym, ◌∙◌, ap, arith, Ok, CellFits, Head, Cell, Words}
-use Rattle.uz_cert_laws.proofs.Common.{choice_of, ends, reads, least_of, ParsedLine}
-use Rattle.uz_schedule.specs.Schedule.{response_clocks}
-use Rattle.uz_schedule.specs.WellFormed.{StackFits}
+use Rattle.uz_cert_laws.proofs.Common.{◌≡◌, ◌⊎◌, inl, inr, ℕ, zero, suc, ◌+◌, ◌-◌, ◌<◌, ◌≤◌, ◌≢◌, eqb, Bool, true, false, cond, List, []}
+use Rattle.uz_cert_laws.proofs.Common.{◌∷◌, decimal, codes, lit<, lit≤, refl, sym, ◌∙◌, ap, arith, Ok, CellFits, Head, Cell, Words}
+use Rattle.uz_cert_laws.proofs.Common.{choice_of, ends, reads, least_of, ParsedLine, line, word_at}
 use Rattle.uz_schedule.specs.declared.kinds.Response.{Response}
 use Rattle.uz_schedule.specs.declared.kinds.Response.TheVariants.{Four, Five}
-use Rattle.uz_schedule.specs.declared.kinds.Owner.{Owner}
 use Rattle.uz_schedule.specs.declared.kinds.Owner.TheVariants.{Main as MainCell, Handler as HandlerCell}
-use Rattle.uz_cert_lines.specs.Lines.{SizesFit, size_form, irq_form, response_of, stack_form, owner_of, off_stack}
-use Rattle.uz_cert_lines.specs.Lines.{cell_form}
-use Rattle.uz_cert_lines.specs.declared.lines.Sizes.{Sizes}
-use Rattle.uz_cert_lines.specs.declared.lines.StackLine.{StackLine}
-use Rattle.uz_cert_lines.specs.declared.lines.ParsedLine.TheVariants as parsed
+use Rattle.uz_cert_lines.specs.Lines.{SizesFit, size_form, irq_form, response_of, stack_form, owner_of, off_stack, cell_form}
 use Rattle.uz_cert_writer.specs.Spelling.{owner_word, cell_words}
-use Rattle.uz_cert_laws.specs.LineWords.{line, sizes_words, response_words, stack_line_words, with_stack}
-use Rattle.uz_cert_laws.specs.Spells.{word_at}
-use Rattle.uz_cert_laws.proofs.Numbers.{IsWithin}
-use Rattle.uz_cert_laws.proofs.Tests.{both_of, fine, number_is, number_not}
-use Rattle.uz_cert_laws.proofs.Steps.{apart, is_within, under_both, both_under, least_small}
+use Rattle.uz_cert_laws.specs.LineWords.{sizes_words, response_words, stack_line_words, with_stack}
+use Rattle.uz_cert_laws.proofs.Numbers.{apart, is_within, under_both, both_under, least_small, IsWithin}
 use Rattle.uz_cert_laws.proofs.FormLaws.{IsReadable, form_again, form_only}
+use Rattle.uz_cert_laws.proofs.Tests.{both_of, fine, number_is, number_not}
+use Rattle.uz_schedule.specs.{WellFormed.StackFits, Schedule.response_clocks, declared.kinds.Owner.Owner}
+use Rattle.uz_cert_lines.specs.{declared.lines.Sizes.Sizes, declared.lines.StackLine.StackLine}
+use Rattle.uz_cert_lines.specs.declared.lines.ParsedLine.TheVariants as parsed
 
 -- size
 
 pub size_sound : IsReadable size_form
-size_sound =
-    (refl, (lit≤ tt, λ k i. (lit≤ tt, λ l j. let few = j.below in (omega (arith, few), λ r o. (lit≤ tt, λ p q. (lit≤ tt, λ c t. tt))))))
+size_sound = (lit≤ tt, λ k i. (lit≤ tt, λ l j. let few = j.below in (omega (arith, few), λ r o. (lit≤ tt, λ p q. (lit≤ tt, λ c t. tt)))))
 
 pub size_again : (s : Sizes) → SizesFit s → reads size_form (line (sizes_words s)) ≡ Ok (parsed.Size s)
 size_again s h =
@@ -60,8 +53,7 @@ size_only words says e =
 -- irq
 
 pub irq_sound : IsReadable irq_form
-irq_sound =
-    (refl, (lit≤ tt, λ n i. tt))
+irq_sound = (lit≤ tt, λ n i. tt)
 
 pub irq_again : (r : Response) → reads irq_form (line (response_words r)) ≡ Ok (parsed.Irq r)
 irq_again Four = form_again irq_form (4, tt) irq_sound (is_within 4 6 4 (lit≤ tt) (lit≤ tt) (lit< tt), tt)
@@ -87,8 +79,8 @@ irq_only words says e =
 
 pub stack_sound : IsReadable stack_form
 stack_sound =
-    both_of refl (both_of (lit≤ tt) (λ lo i. both_of (lit≤ tt) (λ hi j. both_of (omega (arith, least_small 33 (hi - lo) (lit≤ tt)))
-    (λ m k. (omega (arith, least_small 33 (hi - lo - m) (lit≤ tt)), λ n o. tt)))))
+    both_of (lit≤ tt) (λ lo i. both_of (lit≤ tt) (λ hi j. both_of (omega (arith, least_small 33 (hi - lo) (lit≤ tt)))
+    (λ m k. (omega (arith, least_small 33 (hi - lo - m) (lit≤ tt)), λ n o. tt))))
 
 pub stack_again : (h : Head) (s : StackLine) → StackFits (with_stack h s) → reads stack_form (line (stack_line_words s))
     ≡ Ok (parsed.Stack s)
@@ -171,8 +163,7 @@ off_stack_so lo hi least n a b d l =
     }
 
 pub cell_sound : (lo hi least : ℕ) → IsReadable (cell_form lo hi least)
-cell_sound lo hi least =
-    (refl, (lit≤ tt, λ at i. ((refl, (refl, tt)), λ o. (lit≤ tt, λ low j. (lit≤ tt, λ high k. tt)))))
+cell_sound lo hi least = (lit≤ tt, λ at i o. (lit≤ tt, λ low j. (lit≤ tt, λ high k. tt)))
 
 pub cell_again : (h : Head) (least : ℕ) (c : Cell) → CellFits h c → least ≤ c.at → reads (cell_form h.lo h.hi least) (line (cell_words c))
     ≡ Ok (parsed.Cell c)

@@ -1,22 +1,18 @@
 -- Items of one value that have a name: what each kind of value gives is read again and only that is read, and from this the same
 -- for each table of such items.
 use Rattle.uz_cert_laws.proofs.Common.{◌≡◌, ◌⊎◌, inl, inr, ℕ, ◌+◌, ◌<◌, ◌≤◌, ◌^◌, Bool, true, false, cond, not, ◌&&◌, ◌||◌, eqb, leb, ltb}
-use Rattle.uz_cert_laws.proofs.Common.{List, [], ◌∷◌, ◌++◌, length, decimal, bytes_eq, lit≤, refl, sym, ◌∙◌, ap, subst, append_assoc, arith}
-use Rattle.uz_cert_laws.proofs.Common.{⊤, Result, Ok, Err, plain, RangeFits, ◌>>=◌, one_number, range, ends_of}
-use Rattle.uz_cert_laws.proofs.Common.{names_c_or_z, any_names, ValueForm, a_number, a_range, a_comparison, a_register, ValueOf, is_usual}
-use Rattle.uz_cert_laws.proofs.Common.{NamedItem, named_items}
-use Rattle.uz_cert_laws.proofs.Common.{named_place, NamedValues, Shape, Facts, CertWhy, item, unless, range_word, value_word, value_item}
-use Rattle.uz_cert_laws.proofs.Common.{value_items, listed_items}
-use Rattle.uz_cert_lines.specs.Named.{usual_of, temp_forms, value_read}
-use Rattle.uz_cert_lines.specs.Items.{in_order, value_set, take_value, take_listed}
-use Rattle.uz_cert_lines.specs.declared.why.CertWhy.TheVariants as why
-use Rattle.uz_cert_laws.proofs.Tests.{and_true, both_true, neither, not_true, true_not, refuted, fine_is, fault_not, passed, so, else_so, tested}
-use Rattle.uz_cert_laws.proofs.Tests.{bind_ok, then, le_is, is_le, lt_is, number_is, same_number, word_is, same_word}
-use Rattle.uz_cert_laws.proofs.Numbers.{one_only, one_so, lacks}
+use Rattle.uz_cert_laws.proofs.Common.{List, [], ◌∷◌, ◌++◌, length, decimal, bytes_eq, lit≤, refl, sym, ◌∙◌, ap, subst, append_assoc}
+use Rattle.uz_cert_laws.proofs.Common.{arith, ⊤, Result, Ok, Err, plain, RangeFits, ◌>>=◌, one_number, range, ends_of, names_c_or_z}
+use Rattle.uz_cert_laws.proofs.Common.{any_names, ValueForm, a_number, a_range, a_comparison, a_register, ValueOf, is_usual, NamedItem}
+use Rattle.uz_cert_laws.proofs.Common.{named_items, named_place, NamedValues, Shape, Facts, CertWhy, item, unless, range_word, value_word}
+use Rattle.uz_cert_laws.proofs.Common.{value_item, value_items, listed_items, temp_forms, ComparedFits, SplitFits}
+use Rattle.uz_cert_laws.proofs.Tests.{and_true, both_true, neither, not_true, true_not, refuted, fine_is, fault_not, passed, so, else_so}
+use Rattle.uz_cert_laws.proofs.Tests.{tested, bind_ok, then, le_is, is_le, lt_is, number_is, same_number, word_is, same_word}
 use Rattle.uz_cert_laws.proofs.Comparisons.{comparison_only, comparison_so, nothing_is, split_only, split_so, none_is}
-use Rattle.uz_schedule.specs.WellFormed.{ComparedFits, SplitFits}
 use Rattle.uz_cert_laws.proofs.Facts.{temp_only, temp_raw, temp_so, whole_ends, part_from}
-use Rattle.uz_cert_laws.proofs.Sections.{Section, IsSection}
+use Rattle.uz_cert_laws.proofs.{Sections.Section, Sections.IsSection, Numbers.one_only, Numbers.one_so, Numbers.lacks}
+use Rattle.uz_cert_lines.specs.{Named.usual_of, Named.value_read, Items.in_order, Items.value_set, Items.take_value, Items.take_listed}
+use Rattle.uz_cert_lines.specs.declared.why.CertWhy.TheVariants as why
 
 -- an item in its order
 

@@ -1,44 +1,29 @@
 -- The line of a point.
 use Rattle.uz_cert_laws.proofs.Common.{◌≡◌, ℕ, zero, suc, ◌+◌, ◌-◌, ◌*◌, ◌/◌, ◌<◌, ◌≤◌, ◌^◌, Bool, true, false, ◌&&◌, ◌||◌, eqb, List, []}
 use Rattle.uz_cert_laws.proofs.Common.{◌∷◌, decimal, codes, get_or, lit<, lit≤, refl, sym, ◌∙◌, ap, subst, arith, Ok, decimal_digit}
-use Rattle.uz_cert_laws.proofs.Common.{whole_byte, clock_limit, scanline, RangeFits, FactFits, PairFits, BitFits, magnitude, is_zero_or_one}
+use Rattle.uz_cert_laws.proofs.Common.{clock_limit, scanline, RangeFits, FactFits, PairFits, BitFits, magnitude, is_zero_or_one}
 use Rattle.uz_cert_laws.proofs.Common.{is_carry_and_zero_default, Kind, Main, Handler, Alone, Head, Words, choice_of, is_handler}
 use Rattle.uz_cert_laws.proofs.Common.{bytes_forms, pair_forms, reads, none_in_main, Facts, ParsedLine, Version, First, Second, Third}
-use Rattle.uz_cert_laws.proofs.Common.{kind_word, Option, None}
-use Rattle.uz_cert_laws.proofs.Common.{signed_word, named_items, named_of, with_named, usual_facts, Shape}
-use Rattle.std.proofs.Common.{ℤ, pos, negsuc}
-use Rattle.uz_schedule.specs.Limits.{is_top}
-use Rattle.uz_schedule.specs.Schedule.{half_line}
-use Rattle.uz_schedule.specs.WellFormed.{CoreFits, MemoryFits, PointFits, PointKindFits}
-use Rattle.uz_schedule.specs.WellFormed.{IsAtBegin, IsTimerLeftOut}
-use Rattle.uz_schedule.specs.WellFormed.{instances_of, ComparedFits, SplitFits, IsWithoutRules, RulesFit}
-use Rattle.uz_schedule.specs.declared.facts.Compared.{Compared}
-use Rattle.uz_schedule.specs.declared.facts.Compared.TheVariants.{Nothing}
-use Rattle.uz_schedule.specs.declared.kinds.RuleVersion.{RuleVersion}
+use Rattle.uz_cert_laws.proofs.Common.{kind_word, Option, None, signed_word, named_items, named_of, with_named, usual_facts, Shape, ℤ}
+use Rattle.uz_cert_laws.proofs.Common.{pos, negsuc, ComparedFits, SplitFits, Compared, AnyPair, line, PlacesAre, word_at, Parts, says}
+use Rattle.uz_cert_laws.proofs.Common.{spells, letters_of_pairs, letters_of_flags, spelled}
+use Rattle.uz_schedule.specs.WellFormed.{CoreFits, MemoryFits, PointFits, PointKindFits, IsAtBegin, IsTimerLeftOut, instances_of}
+use Rattle.uz_schedule.specs.WellFormed.{IsWithoutRules, RulesFit}
 use Rattle.uz_schedule.specs.declared.kinds.RuleVersion.TheVariants.{Two, Three}
-use Rattle.uz_schedule.specs.declared.facts.PairFact.TheVariants.{Any as AnyPair}
-use Rattle.uz_schedule.specs.declared.states.Point.{Point}
 use Rattle.uz_cert_lines.specs.Lines.{is_timed, is_compared, point_shape, IsPointIn, point_kind, pending_limit, count_limit, point_after}
 use Rattle.uz_cert_lines.specs.Lines.{point_form}
-use Rattle.uz_cert_lines.specs.declared.lines.PointPlace.{PointPlace}
-use Rattle.uz_cert_lines.specs.declared.lines.ParsedLine.TheVariants as parsed
 use Rattle.uz_cert_writer.specs.Spelling.{truth_word, point_items, point_words}
-use Rattle.uz_cert_laws.specs.LineWords.{line, PlacesAre}
 use Rattle.uz_cert_laws.proofs.Tests.{some_not, both_of, fine, true_not, number_is}
-use Rattle.uz_cert_lines.specs.Named.{values_of, point_of}
-use Rattle.uz_cert_laws.proofs.Named.{Say}
-use Rattle.uz_cert_laws.specs.Spells.{word_at, Parts, says, spells}
-use Rattle.uz_cert_laws.proofs.ReadItems.{ShapeFits}
-use Rattle.uz_cert_laws.proofs.SpelledItems.{FactsFit}
-use Rattle.uz_cert_laws.proofs.Steps.{is_within as within_so, under_both, both_under, least_small}
+use Rattle.uz_cert_laws.proofs.Numbers.{is_within as within_so, under_both, both_under, least_small}
 use Rattle.uz_cert_laws.proofs.FormLaws.{Fit, SaysFacts, IsReadable, form_again, form_only}
-use Rattle.uz_cert_laws.proofs.Facts.{FactIn, PairIn, BitIn}
-use Rattle.uz_cert_laws.proofs.Options.{each_length}
-use Rattle.uz_cert_laws.proofs.Spelled.{registers}
-use Rattle.uz_cert_laws.specs.Spells.{letters_of_pairs, letters_of_flags, spelled}
 use Rattle.uz_cert_laws.proofs.Fitting.{each_of_all, all_of_each, all_other, fact_in, fact_out, cells_in, cells_out, pair_in, pair_out}
 use Rattle.uz_cert_laws.proofs.Fitting.{bit_in, bit_out, under_none, none_under, none_small, box_under, under_box}
-use Rattle.uz_cert_laws.proofs.EntryLine.{shape_fits}
+use Rattle.uz_schedule.specs.{Limits.is_top, Ends.whole_byte, Schedule.half_line, declared.states.Point.Point}
+use Rattle.uz_schedule.specs.{declared.kinds.RuleVersion.RuleVersion, declared.facts.Compared.TheVariants.Nothing}
+use Rattle.uz_cert_lines.specs.{Named.values_of, Named.point_of, declared.lines.PointPlace.PointPlace}
+use Rattle.uz_cert_laws.proofs.{Named.Say, Spelled.registers, ReadItems.ShapeFits, Sections.each_length, EntryLine.shape_fits}
+use Rattle.uz_cert_laws.proofs.{SpelledItems.FactsFit, Facts.FactIn, Facts.PairIn, Facts.BitIn}
+use Rattle.uz_cert_lines.specs.declared.lines.ParsedLine.TheVariants as parsed
 
 -- again
 
@@ -152,22 +137,22 @@ point_sayable version h lines points p f o =
     said_so true b e f = f
     said_so false b e f = absurd cc
 
--- where a point stands
-abbrev place_of : Point → PointPlace
-place_of p = record {
-  kind = p.kind;
-  pc = p.pc;
-  l0 = p.l0;
-  l1 = p.l1;
-  c0 = p.c0;
-  c1 = p.c1;
-  clock = p.clock;
-  slope = p.slope;
-  pending = p.pending;
+-- where a point stands, with the number of its word for pending
+abbrev placed : Kind → ℕ → ℕ → ℕ → ℕ → ℕ → ℕ → ℤ → ℕ → PointPlace
+placed kind pc l0 l1 c0 c1 clock slope n = record {
+  kind = kind;
+  pc = pc;
+  l0 = l0;
+  l1 = l1;
+  c0 = c0;
+  c1 = c1;
+  clock = clock;
+  slope = slope;
+  pending = eqb n 1;
 }
 
 point_back : (p : Point) (n : ℕ) → eqb n 1 ≡ p.pending
-    → point_of (record (place_of p) { pending = eqb n 1 }) (facts_of p) ≡ p
+    → point_of (placed p.kind p.pc p.l0 p.l1 p.c0 p.c1 p.clock p.slope n) (facts_of p) ≡ p
 unfolding point_of
 point_back p n e = ap (λ (waits : Bool). record p { pending = waits }) e
 
@@ -227,21 +212,10 @@ after_sound version h lines points left kind a =
     both_of (omega (arith, least_small (none_in_main kind 256) (c0 + left / (l1 - l0 + 1)) counts_small)) (λ c1 q.
     both_of (omega (arith, clocks_small)) (λ clock r. both_of (omega (arith, clocks_small)) (λ s. both_of (omega (arith, waits_small)) (λ n t.
     both_of (point_shape_fits version h lines points kind a)
-    (point_says version h points (record {
-      kind = kind;
-      pc = pc;
-      l0 = l0;
-      l1 = l1;
-      c0 = c0;
-      c1 = c1;
-      clock = clock;
-      slope = s;
-      pending = eqb n 1;
-    }))))))))))
+    (point_says version h points (placed kind pc l0 l1 c0 c1 clock s n))))))))))
 
 pub point_sound : (version : Version) (h : Head) (lines points left : ℕ) → PlacesAre h lines points → IsReadable (point_form version h lines points left)
-point_sound version h lines points left a =
-    (refl, ((refl, (refl, (refl, tt))), λ n. after_sound version h lines points left (point_kind n) a))
+point_sound version h lines points left a = λ n. after_sound version h lines points left (point_kind n) a
 
 abbrev point_kinds : List (List ℕ)
 point_kinds = codes "main" ∷ codes "handler" ∷ codes "alone" ∷ []
@@ -473,17 +447,7 @@ point_made version h lines points left kind q some g =
     let f = q.1.1.1.1.1.1.1.1 in
     let facts = g.1.1.1.1.1.1.1.1 in
     let waits : n < pending_limit kind = g.1.1.1.1.1.1.1.0.below in
-    let at : PointPlace = record {
-      kind = kind;
-      pc = q.0;
-      l0 = l0;
-      l1 = l1;
-      c0 = c0;
-      c1 = c1;
-      clock = clock;
-      slope = steps;
-      pending = eqb n 1;
-    } in
+    let at = placed kind q.0 l0 l1 c0 c1 clock steps n in
     let both = both_under (none_in_main kind 256) (c0 + left / (l1 - l0 + 1)) c1 g.1.1.1.1.0.below in
     let l0u = none_under kind lines l0 some g.1.0.below in
     let l1u = none_under kind lines l1 some g.1.1.0.below in

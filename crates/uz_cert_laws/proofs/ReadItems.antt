@@ -1,27 +1,22 @@
 -- All items of a line: where they are read, they are what is spelled of the facts that they say.
-use Rattle.uz_cert_laws.proofs.Common.{◌≡◌, ◌⊎◌, inl, inr, ℕ, zero, suc, ◌+◌, ◌<◌, ◌≤◌, Bool, true, false, cond, not, ◌&&◌, ◌||◌, eqb, ltb}
-use Rattle.uz_cert_laws.proofs.Common.{List, [], ◌∷◌, ◌++◌, map, length, take, drop, get_or, decimal, codes, bytes_eq, lit<, lit≤, refl}
-use Rattle.uz_cert_laws.proofs.Common.{sym, ◌∙◌, ap, subst, append_assoc, append-nil, arith, Ok, slice_set, All-nil, All-head, All-tail}
-use Rattle.uz_cert_laws.proofs.Common.{decimal_digit, Ends, tracks, RangeFits, is_zero_or_one, is_default_flag, is_carry_and_zero_default}
-use Rattle.uz_cert_laws.proofs.Common.{Kind, Main, Handler, Alone, Cell, Fact, Any, Between, PairFact, Bit, Words, names_c_or_z, any_names}
-use Rattle.uz_cert_laws.proofs.Common.{first_facts, default_flag, is_handler, bytes_forms, pair_forms, is_flag_z, tracked_count, take_item}
-use Rattle.uz_cert_laws.proofs.Common.{items_from, read_items, FactForms, Shape, Facts, numbers_from, fact_word, pair_word, flag_word}
-use Rattle.uz_cert_laws.proofs.Common.{named_items, named_place, successors_place, named_of}
-use Rattle.std.specs.Prelude.{All}
-use Rattle.uz_schedule.specs.declared.facts.PairFact.TheVariants.{Any as AnyPair, Between as BetweenPair, Line as LinePair}
-use Rattle.uz_schedule.specs.declared.facts.PairFact.TheVariants.{Loop as LoopPair}
-use Rattle.uz_cert_lines.specs.declared.why.CertWhy.TheVariants as why
+use Rattle.uz_cert_laws.proofs.Common.{◌≡◌, ◌⊎◌, inl, inr, ℕ, zero, suc, ◌+◌, ◌<◌, ◌≤◌, Bool, true, false, cond, not, ◌&&◌, ◌||◌, eqb}
+use Rattle.uz_cert_laws.proofs.Common.{ltb, List, [], ◌∷◌, ◌++◌, map, length, take, drop, get_or, decimal, codes, bytes_eq, lit<, lit≤}
+use Rattle.uz_cert_laws.proofs.Common.{refl, sym, ◌∙◌, ap, subst, append_assoc, append-nil, arith, Ok, slice_set, All-nil, All-head}
+use Rattle.uz_cert_laws.proofs.Common.{All-tail, decimal_digit, Ends, tracks, RangeFits, is_zero_or_one, is_default_flag}
+use Rattle.uz_cert_laws.proofs.Common.{is_carry_and_zero_default, Kind, Main, Handler, Alone, Cell, Fact, Any, Between, PairFact, Bit}
+use Rattle.uz_cert_laws.proofs.Common.{Words, names_c_or_z, any_names, first_facts, default_flag, is_handler, bytes_forms, pair_forms}
+use Rattle.uz_cert_laws.proofs.Common.{is_flag_z, tracked_count, take_item, items_from, read_items, FactForms, Shape, Facts, numbers_from}
+use Rattle.uz_cert_laws.proofs.Common.{fact_word, pair_word, flag_word, named_items, named_place, successors_place, named_of, All}
+use Rattle.uz_cert_laws.proofs.Common.{AnyPair, BetweenPair, LinePair, LoopPair, letters_of_pairs, letters_of_flags, spelled}
 use Rattle.uz_cert_laws.proofs.Tests.{both_of, and_true, or_false, fine_is, fault_not, true_not, bind_ok, number_is, lt_is}
-use Rattle.uz_cert_laws.proofs.Facts.{FactIn, PairIn, BitIn, part_from}
-use Rattle.uz_cert_laws.proofs.Options.{Each, each_length, each_map}
-use Rattle.uz_cert_laws.proofs.Spelled.{registers, numbered_cells, usual_fact, usual_bit, usual_cell}
-use Rattle.uz_cert_laws.proofs.Spelled.{registers_usual, cells_usual}
+use Rattle.uz_cert_laws.proofs.Spelled.{registers, numbered_cells, usual_fact, usual_bit, usual_cell, registers_usual, cells_usual}
 use Rattle.uz_cert_laws.proofs.ItemForms.{with_pair, with_flag, PairForm, FlagForm, HasForm, register, pair, flag, slot, cell, listed}
 use Rattle.uz_cert_laws.proofs.ItemForms.{successor, PlacesFit, cell_form, flag_letter, item_taken}
-use Rattle.uz_cert_laws.specs.Spells.{letters_of_pairs, letters_of_flags, spelled}
 use Rattle.uz_cert_laws.proofs.GrowingFacts.{Regular, all_items, values, are_sections, one_more}
-use Rattle.uz_cert_laws.proofs.Sections.{all_empty}
+use Rattle.uz_cert_laws.proofs.Sections.{all_empty, Each, each_length, each_map}
+use Rattle.uz_cert_laws.proofs.Facts.{FactIn, PairIn, BitIn, part_from}
 use Rattle.uz_cert_laws.proofs.Named.{say_usuals, fresh_usuals, sets_between, sets_other}
+use Rattle.uz_cert_lines.specs.declared.why.CertWhy.TheVariants as why
 
 -- the facts where nothing is said
 

@@ -1,23 +1,20 @@
--- The lines of kinds, events, the fall and runs, and the last line.
-use Rattle.uz_cert_laws.proofs.Common.{◌≡◌, ℕ, zero, suc, ◌+◌, ◌<◌, ◌≤◌, ◌^◌, Bool, true, false, cond, eqb, List, [], ◌∷◌, decimal, codes}
-use Rattle.uz_cert_laws.proofs.Common.{lit≤, refl, sym, ◌∙◌, ap, arith, Result, Ok, clock_limit, scanline, Words, choice_of, number, finish}
-use Rattle.uz_cert_laws.proofs.Common.{reads, within, ParsedLine, Version, First, Second, Third, CertWhy}
-use Rattle.uz_schedule.specs.Limits.{most_events, is_length, KindFits, EventFits}
-use Rattle.uz_schedule.specs.declared.lines.Event.{Event}
-use Rattle.uz_schedule.specs.declared.lines.EventKind.{EventKind}
+-- The lines of the schedule, and the line of a rest.
+use Rattle.uz_cert_laws.proofs.Common.{◌≡◌, ℕ, ◌≤◌, ◌∷◌, map, decimal, codes, lit≤, sym, ◌∙◌, ap, append-nil, arith, Ok, clock_limit}
+use Rattle.uz_cert_laws.proofs.Common.{Head, Words, reads, ParsedLine, ends_word, line, PlacesAre, zero, suc, ◌+◌, ◌<◌, ◌^◌, Bool, true}
+use Rattle.uz_cert_laws.proofs.Common.{false, cond, eqb, List, [], refl, Result, scanline, choice_of, number, finish, within, Version}
+use Rattle.uz_cert_laws.proofs.Common.{First, Second, Third, CertWhy, word_at, Parts, says, spells}
+use Rattle.uz_cert_lines.specs.Lines.{rest_form, length_for, KindLineFits, kind_form, event_after, event_form, fall_form, run_form}
+use Rattle.uz_cert_lines.specs.Lines.{end_form}
+use Rattle.uz_cert_writer.specs.Spelling.{rest_words, kind_words, event_words, event_kind_words, run_words}
+use Rattle.uz_cert_laws.proofs.Numbers.{is_within as within_so, one_of_so, rising_so, IsWithin, apart, is_within, other_so}
 use Rattle.uz_schedule.specs.declared.lines.EventKind.TheVariants.{Sync, Pixel, Sound, Leave}
-use Rattle.uz_cert_lines.specs.Lines.{length_for, KindLineFits}
-use Rattle.uz_cert_lines.specs.Lines.{kind_form, event_after, event_form, fall_form, run_form, end_form}
-use Rattle.uz_cert_lines.specs.declared.lines.KindLine.{KindLine}
-use Rattle.uz_cert_lines.specs.declared.lines.Run.{Run}
-use Rattle.uz_cert_lines.specs.declared.lines.ParsedLine.TheVariants as parsed
 use Rattle.uz_cert_lines.proofs.Lengths.{length_few, least_length, no_other_length, length_asked}
-use Rattle.uz_cert_writer.specs.Spelling.{kind_words, event_words, event_kind_words, run_words}
-use Rattle.uz_cert_laws.specs.LineWords.{line, RunFits}
-use Rattle.uz_cert_laws.specs.Spells.{word_at, Parts, says, spells}
-use Rattle.uz_cert_laws.proofs.Numbers.{IsWithin}
-use Rattle.uz_cert_laws.proofs.Steps.{apart, is_within, rising_so, other_so}
-use Rattle.uz_cert_laws.proofs.FormLaws.{Fit, IsReadable, form_again, form_only}
+use Rattle.uz_cert_laws.specs.LineWords.{RunFits}
+use Rattle.uz_cert_lines.specs.{declared.lines.Run.Run, declared.lines.KindLine.KindLine}
+use Rattle.uz_cert_laws.proofs.{Spans.bytes_of, FormLaws.IsReadable, FormLaws.form_again, FormLaws.form_only, FormLaws.Fit}
+use Rattle.uz_schedule.specs.{WellFormed.RestFits, declared.states.Rest.Rest, declared.lines.Event.Event}
+use Rattle.uz_schedule.specs.{declared.lines.EventKind.EventKind, Limits.most_events, Limits.is_length, Limits.KindFits, Limits.EventFits}
+use Rattle.uz_cert_lines.specs.declared.lines.ParsedLine.TheVariants as parsed
 
 -- kind
 
@@ -36,9 +33,9 @@ length_so events clocks few is =
     }
 
 pub kind_sound : (version : Version) → IsReadable (kind_form version)
-kind_sound First = (refl, (lit≤ tt, λ n i. tt))
-kind_sound Second = (refl, (lit≤ tt, λ n i. (lit≤ tt, λ m j. tt)))
-kind_sound Third = (refl, (lit≤ tt, λ n i. (lit≤ tt, λ m j. tt)))
+kind_sound First = (lit≤ tt, λ n i. tt)
+kind_sound Second = (lit≤ tt, λ n i. (lit≤ tt, λ m j. tt))
+kind_sound Third = (lit≤ tt, λ n i. (lit≤ tt, λ m j. tt))
 
 -- with the length
 said_again : (k : KindLine) → KindLineFits Second k → reads (kind_form Second) (line (kind_words Second k.events k.clocks)) ≡ told (parsed.Kind k)
@@ -102,8 +99,7 @@ after_sound clock n = by (eqb n 0) (eqb n 1) (eqb n 2)
     by false false false = tt
 
 pub event_sound : (clocks least : ℕ) → clocks ≤ scanline → IsReadable (event_form clocks least)
-event_sound clocks least few =
-    (omega (arith, few), λ clock i. ((refl, (refl, (refl, (refl, tt)))), λ n. after_sound clock n))
+event_sound clocks least few = (omega (arith, few), λ clock i n. after_sound clock n)
 
 event_so : (clocks least clock : ℕ) (kind : EventKind) → clocks ≤ scanline → KindFits kind → clock < clocks → least ≤ clock
     → reads (event_form clocks least) (line (decimal clock ∷ event_kind_words kind)) ≡ told (parsed.Event (record { clock = clock; kind = kind }))
@@ -154,8 +150,7 @@ event_only clocks least words says few e =
 -- fall
 
 pub fall_sound : IsReadable fall_form
-fall_sound =
-    (refl, (lit≤ tt, λ n i. tt))
+fall_sound = (lit≤ tt, λ n i. tt)
 
 pub fall_again : (clock : ℕ) → 1 ≤ clock → clock < clock_limit → reads fall_form (line (codes "fall" ∷ decimal clock ∷ [])) ≡ Ok
     (parsed.Fall clock)
@@ -170,8 +165,7 @@ fall_only words says e =
 -- runs
 
 pub run_sound : (kinds left before : ℕ) → kinds ≤ 2 ^ 31 → left < 2 ^ 31 → IsReadable (run_form kinds left before)
-run_sound kinds left before k l =
-    (refl, (omega arith, λ count i. (omega arith, λ kind j. tt)))
+run_sound kinds left before k l = (omega arith, λ count i. (omega arith, λ kind j. tt))
 
 pub run_again : (kinds left before count kind : ℕ) → kinds ≤ 2 ^ 31 → left < 2 ^ 31 → RunFits kinds left before count kind
     → reads (run_form kinds left before) (line (run_words (count, kind))) ≡ Ok (parsed.Run (record { count = count; kind = kind }))
@@ -195,7 +189,49 @@ run_only kinds left before words says k l e =
 -- end
 
 pub end_again : reads end_form (line (codes "end" ∷ [])) ≡ Ok parsed.End
-end_again = form_again end_form tt (refl, tt) tt
+end_again = form_again end_form tt tt tt
 
 pub end_only : (words : Words) (says : ParsedLine) → reads end_form words ≡ Ok says → (says ≡ parsed.End) × (words ≡ line (codes "end" ∷ []))
-end_only words says e = let r = form_only end_form words says (refl, tt) e in (r.1, r.2)
+end_only words says e = let r = form_only end_form words says tt e in (r.1, r.2)
+
+pub rest_sound : (h : Head) (lines points least : ℕ) → PlacesAre h lines points → IsReadable (rest_form lines points h.cells.items least)
+rest_sound h lines points least a =
+    let few : lines ≤ 525 = a.lines_few in
+    let many : points ≤ 524288 = a.points_few in
+    (omega arith, λ line i. (lit≤ tt, λ clock j. (omega arith, λ vector k. (bytes_of h h.cells.items a.each, λ es. tt))))
+
+pub rest_again : (h : Head) (lines points least : ℕ) (r : Rest) → PlacesAre h lines points → RestFits h lines points r → least ≤ r.line
+    → reads (rest_form lines points h.cells.items least) (line (rest_words r)) ≡ Ok (parsed.Rest r)
+rest_again h lines points least r a f l =
+    let few : lines ≤ 525 = a.lines_few in
+    let many : points ≤ 524288 = a.points_few in
+    ap (λ ws. reads (rest_form lines points h.cells.items least)
+    (line (codes "rest" ∷ decimal r.line ∷ decimal r.clock ∷ decimal r.vector ∷ ws))) (sym (append-nil (map (ends_word 255) r.cells.items)))
+    ∙ form_again (rest_form lines points h.cells.items least) (r.line, (r.clock, (r.vector, (r.cells.items, tt))))
+    (rest_sound h lines points least a) (
+      rising_so least lines r.line (omega arith) l f.line,
+      (
+        within_so 0 clock_limit r.clock (lit≤ tt) (omega arith) f.clock,
+        (one_of_so points r.vector (omega arith) f.vector, ((f.cells.ranges, f.cells.within), tt)),
+      ),
+    )
+
+pub rest_only : (h : Head) (lines points least : ℕ) (words : Words) (says : ParsedLine) → PlacesAre h lines points
+    → reads (rest_form lines points h.cells.items least) words ≡ Ok says
+    → (r : Rest) × (says ≡ parsed.Rest r) × (words ≡ line (rest_words r)) × RestFits h lines points r × (least ≤ r.line)
+rest_only h lines points least words says a e =
+    let r = form_only (rest_form lines points h.cells.items least) words says (rest_sound h lines points least a) e in
+    let p = r.0 in
+    let f = r.3 in
+    let es = p.1.1.1.0 in (
+      record { line = p.0; clock = p.1.0; vector = p.1.1.0; cells = record { items = es } },
+      r.1,
+      r.2 ∙ ap (λ ws. line (codes "rest" ∷ decimal p.0 ∷ decimal p.1.0 ∷ decimal p.1.1.0 ∷ ws)) (append-nil (map (ends_word 255) es)),
+      record {
+        line = f.0.below;
+        clock = f.1.0.below;
+        vector = f.1.1.0.below;
+        cells = record { ranges = f.1.1.1.0.0; within = f.1.1.1.0.1 };
+      },
+      f.0.least,
+    )

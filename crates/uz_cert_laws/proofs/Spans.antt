@@ -1,14 +1,12 @@
 -- Ranges for the cells of the handler, one word for each.
-use Rattle.uz_cert_laws.proofs.Common.{◌≡◌, ℕ, ◌≤◌, Bool, true, false, cond, List, [], ◌∷◌, ◌++◌, map, filter, refl, ◌∙◌, ap, subst, Result}
-use Rattle.uz_cert_laws.proofs.Common.{Ok, All-nil, All-cons, All-head, All-tail, Ends, is_within, tracks, RangeFits, CellFits, spans_fit}
-use Rattle.uz_cert_laws.proofs.Common.{Handler, Cell, Head, ◌>>=◌, Words, rest_of, next_as, span_of, spans_of, CertWhy, ends_word}
-use Rattle.std.specs.Prelude.{All}
+use Rattle.uz_cert_laws.proofs.Common.{◌≡◌, ℕ, ◌≤◌, Bool, true, false, cond, List, [], ◌∷◌, ◌++◌, map, filter, refl, ◌∙◌, ap, subst}
+use Rattle.uz_cert_laws.proofs.Common.{Result, Ok, All-nil, All-cons, All-head, All-tail, Ends, is_within, tracks, RangeFits, CellFits}
+use Rattle.uz_cert_laws.proofs.Common.{spans_fit, Handler, Cell, Head, ◌>>=◌, Words, rest_of, next_as, span_of, spans_of, CertWhy}
+use Rattle.uz_cert_laws.proofs.Common.{ends_word, All, line}
 use Rattle.uz_cert_lines.specs.Forms.{with_span}
-use Rattle.uz_cert_lines.specs.declared.why.CertWhy.TheVariants as why
-use Rattle.uz_cert_laws.specs.LineWords.{line}
 use Rattle.uz_cert_laws.proofs.Tests.{fine, fault_not, and_true, both_true, bind_ok, then}
-use Rattle.uz_cert_laws.proofs.Facts.{span_only, span_so}
-use Rattle.uz_cert_laws.proofs.Steps.{words_in}
+use Rattle.uz_cert_laws.proofs.{Numbers.words_in, Facts.span_only, Facts.span_so}
+use Rattle.uz_cert_lines.specs.declared.why.CertWhy.TheVariants as why
 
 abbrev pub Bytes : List Cell → Type 0
 Bytes cells = All (λ c. c.range.hi ≤ 255) cells

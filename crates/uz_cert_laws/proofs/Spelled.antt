@@ -3,15 +3,11 @@ use Rattle.uz_cert_laws.proofs.Common.{◌≡◌, ℕ, zero, suc, ◌+◌, ◌<�
 use Rattle.uz_cert_laws.proofs.Common.{decimal, lit≤, refl, sym, ◌∙◌, ap, subst, add-one, arith, Option, Some, slice_get, Ends, tracks}
 use Rattle.uz_cert_laws.proofs.Common.{is_default_flag, Kind, Main, Handler, Alone, Cell, Fact, Any, Between, Line, Loop, Old, OldFlags}
 use Rattle.uz_cert_laws.proofs.Common.{PairFact, Bit, Zero, One, Free, is_default, is_any_pair, is_range, range_fact, default_flag}
-use Rattle.uz_cert_laws.proofs.Common.{tracked_before, Shape, options, numbers_from, item, unless, fact_word, register_item, register_items}
-use Rattle.uz_cert_laws.proofs.Common.{cell_items}
-use Rattle.uz_schedule.specs.declared.facts.PairFact.TheVariants.{Any as AnyPair, Between as BetweenPair, Line as LinePair}
-use Rattle.uz_schedule.specs.declared.facts.PairFact.TheVariants.{Loop as LoopPair}
-use Rattle.uz_schedule.specs.declared.facts.Bit.TheVariants.{Old as OldBit}
+use Rattle.uz_cert_laws.proofs.Common.{tracked_before, Shape, options, numbers_from, item, unless, fact_word, register_item}
+use Rattle.uz_cert_laws.proofs.Common.{register_items, cell_items, AnyPair, BetweenPair, LinePair, LoopPair, OldBit}
 use Rattle.uz_cert_lines.specs.Items.{own_regs, any_regs, default_regs, default_cells}
 use Rattle.uz_cert_laws.proofs.Tests.{and_true, both_true, number_is, same_number, so, else_so}
-use Rattle.uz_cert_laws.proofs.Facts.{FactIn, part_not_whole}
-use Rattle.uz_cert_laws.proofs.ItemForms.{cell_form}
+use Rattle.uz_cert_laws.proofs.{ItemForms.cell_form, Facts.FactIn, Facts.part_not_whole}
 
 -- the keys: registers by number, pairs and flags by letter, cells by number
 

@@ -1,35 +1,31 @@
 -- All items of a line: what is spelled of facts is read as these facts.
-use Rattle.uz_cert_laws.proofs.Common.{◌≡◌, ℕ, zero, suc, ◌+◌, ◌<◌, ◌≤◌, Bool, true, false, cond, not, ◌&&◌, ◌||◌, eqb, leb, ltb}
-use Rattle.uz_cert_laws.proofs.Common.{List, [], ◌∷◌, ◌++◌, map, length, take, get_or, decimal, codes, bytes_eq, lit<, lit≤, refl, sym, ◌∙◌}
-use Rattle.uz_cert_laws.proofs.Common.{ap, subst, append_assoc, append-nil, add-one, length-append, arith, Some, Ok, Err, slice_get}
+use Rattle.uz_cert_laws.proofs.Common.{◌≡◌, ℕ, zero, suc, ◌+◌, ◌<◌, ◌≤◌, Bool, true, false, cond, not, ◌&&◌, ◌||◌, eqb, leb, ltb, List}
+use Rattle.uz_cert_laws.proofs.Common.{[], ◌∷◌, ◌++◌, map, length, take, get_or, decimal, codes, bytes_eq, lit<, lit≤, refl, sym, ◌∙◌, ap}
+use Rattle.uz_cert_laws.proofs.Common.{subst, append_assoc, append-nil, add-one, length-append, arith, Some, Ok, Err, slice_get}
 use Rattle.uz_cert_laws.proofs.Common.{slice_set, All-head, All-tail, decimal_digit, rises_from, rises, tracks, is_zero_or_one}
 use Rattle.uz_cert_laws.proofs.Common.{is_default_flag, Kind, Cell, Fact, PairFact, Bit, Zero, One, Free, raw_of, range, one_number}
 use Rattle.uz_cert_laws.proofs.Common.{is_default, is_any_pair, first_facts, is_handler, bytes_forms, pair_forms, tracked_count}
 use Rattle.uz_cert_laws.proofs.Common.{names_c_or_z, any_names, tracked_before, is_flag_z, take_item, items_from, read_items, Raw, Shape}
 use Rattle.uz_cert_laws.proofs.Common.{Facts, numbers_from, register_item, pair_item, flag_item, options, unless, fact_word, pair_word}
 use Rattle.uz_cert_laws.proofs.Common.{flag_word, pair_items, flag_items, slot_items, cell_items, listed_items, successor_items}
-use Rattle.uz_cert_laws.proofs.Common.{named_items, named_place, successors_place, NamedValues, named_of, with_named}
-use Rattle.std.specs.Prelude.{All}
-use Rattle.uz_schedule.specs.declared.facts.PairFact.TheVariants.{Any as AnyPair, Between as BetweenPair, Line as LinePair}
-use Rattle.uz_schedule.specs.declared.facts.PairFact.TheVariants.{Loop as LoopPair}
-use Rattle.uz_schedule.specs.declared.facts.Bit.TheVariants.{Old as OldBit}
+use Rattle.uz_cert_laws.proofs.Common.{named_items, named_place, successors_place, NamedValues, named_of, with_named, All, AnyPair}
+use Rattle.uz_cert_laws.proofs.Common.{BetweenPair, LinePair, LoopPair, OldBit, letters_of_pairs, letters_of_flags, spelled}
+use Rattle.uz_cert_laws.specs.Spells.{listed_and_next}
+use Rattle.uz_cert_laws.proofs.Named.{or_second, Say, usuals, listed_other, listed_read}
+use Rattle.uz_cert_laws.proofs.Tests.{and_true, or_false, fine, fault_not, true_not, refuted, neither, then, le_is, number_is, word_is}
+use Rattle.uz_cert_laws.proofs.Tests.{is_lt, is_not_lt}
+use Rattle.uz_cert_laws.proofs.Facts.{FactIn, PairIn, BitIn, raw_by, pair_raw, pair_so, one_raw}
+use Rattle.uz_cert_laws.proofs.Spelled.{pair_usual_only, registers, numbered_cells, in_range, cell_word, usual_fact, usual_pair}
+use Rattle.uz_cert_laws.proofs.Spelled.{usual_bit, usual_cell, cells_are, registers_usual, cells_usual, register_only, flag_usual_only}
+use Rattle.uz_cert_laws.proofs.Spelled.{range_only_usual}
+use Rattle.uz_cert_laws.proofs.ItemForms.{with_register, with_pair, with_flag, with_cell, cell_form, pair_letter, flag_letter}
+use Rattle.uz_cert_laws.proofs.ItemForms.{register_takes, pair_takes, flag_takes, slot_takes, cell_takes, name_takes, successor_takes}
+use Rattle.uz_cert_laws.proofs.GrowingFacts.{registers_list, pairs_list, flags_list, cells_list, registers_options, pairs_options}
+use Rattle.uz_cert_laws.proofs.GrowingFacts.{flags_options, cells_options}
+use Rattle.uz_cert_laws.proofs.ReadItems.{ShapeFits, IsMeant, names_letter, flag_other_name}
+use Rattle.uz_cert_laws.proofs.Sections.{Each, Ordered, options_read}
 use Rattle.uz_cert_lines.specs.declared.values.Raw.TheVariants as raw
 use Rattle.uz_cert_lines.specs.declared.why.CertWhy.TheVariants as why
-use Rattle.uz_cert_laws.proofs.Named.{or_second, Say, usuals, listed_other, listed_read}
-use Rattle.uz_cert_laws.proofs.Tests.{and_true, or_false, fine, fault_not, true_not, refuted, neither, then, le_is, number_is, word_is, is_lt}
-use Rattle.uz_cert_laws.proofs.Tests.{is_not_lt}
-use Rattle.uz_cert_laws.proofs.Facts.{FactIn, PairIn, BitIn, raw_by, pair_raw, pair_so}
-use Rattle.uz_cert_laws.proofs.Raws.{one_raw}
-use Rattle.uz_cert_laws.proofs.Options.{Each, Ordered, options_read}
-use Rattle.uz_cert_laws.proofs.Spelled.{pair_usual_only, registers, numbered_cells, in_range}
-use Rattle.uz_cert_laws.proofs.Spelled.{cell_word, usual_fact, usual_pair, usual_bit, usual_cell, cells_are, registers_usual, cells_usual}
-use Rattle.uz_cert_laws.proofs.Spelled.{register_only, flag_usual_only, range_only_usual}
-use Rattle.uz_cert_laws.proofs.ItemForms.{with_register, with_pair, with_flag, with_cell, cell_form, pair_letter, flag_letter}
-use Rattle.uz_cert_laws.proofs.FormsAreRead.{register_takes, pair_takes, flag_takes, slot_takes, cell_takes, name_takes, successor_takes}
-use Rattle.uz_cert_laws.specs.Spells.{letters_of_pairs, letters_of_flags, listed_and_next, spelled}
-use Rattle.uz_cert_laws.proofs.GrowingFacts.{registers_list, pairs_list, flags_list, cells_list, registers_options, pairs_options, flags_options}
-use Rattle.uz_cert_laws.proofs.GrowingFacts.{cells_options}
-use Rattle.uz_cert_laws.proofs.ReadItems.{ShapeFits, IsMeant, names_letter, flag_other_name}
 
 -- a value in the middle of a list
 set_middle : {A : Type 0} (front back : List A) (n : ℕ) (x y : A) → n ≡ length front → slice_set (front ++ x ∷ back) n y ≡ front ++ y ∷ back

@@ -1,6 +1,6 @@
 -- Tests, and what their answers tell.
-use Rattle.uz_cert_laws.proofs.Common.{suc, ◌≡◌, ◌⊎◌, inl, inr, ℕ, ◌<◌, ◌≤◌, ◌≢◌, Bool, true, false, cond, not, ◌&&◌, ◌||◌, eqb, leb, ltb, List}
-use Rattle.uz_cert_laws.proofs.Common.{bytes_eq, refl, ◌∙◌, ap, arith, Result, Ok, Err, nat_tests, ◌>>=◌, CertWhy}
+use Rattle.uz_cert_laws.proofs.Common.{suc, ◌≡◌, ◌⊎◌, inl, inr, ℕ, ◌<◌, ◌≤◌, ◌≢◌, Bool, true, false, cond, not, ◌&&◌, ◌||◌, eqb, leb, ltb}
+use Rattle.uz_cert_laws.proofs.Common.{List, bytes_eq, refl, ◌∙◌, ap, arith, Result, Ok, Err, nat_tests, ◌>>=◌, CertWhy}
 use Rattle.std.proofs.lemmas.Slice.Eq.{bytes_eq-Decides}
 
 pub and_true : (a b : Bool) → (a && b) ≡ true → (a ≡ true) × (b ≡ true)

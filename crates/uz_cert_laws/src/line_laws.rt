@@ -30,6 +30,7 @@ ghost use Rattle.uz_cert_writer.specs.Spelling.{entry_words, point_words};
 ghost use Rattle.uz_cert_laws.specs.LineWords.{line, sizes_words, response_words, stack_line_words, with_stack, RunFits, PlacesAre};
 
 /// `size KINDS LINES RESTS POINTS CELLS`
+#[tactic(auto, using(crate::proofs::HeadLines::size_again, crate::proofs::HeadLines::size_only))]
 pub fn size_line()
     ensures again { (s : Sizes) → SizesFit s → reads size_form (line (sizes_words s)) ≡ Ok (parsed.Size s) }
     ensures only { (words : Words) (says : ParsedLine) → reads size_form words ≡ Ok says
@@ -37,6 +38,7 @@ pub fn size_line()
 {}
 
 /// `irq R`
+#[tactic(auto, using(crate::proofs::HeadLines::irq_again, crate::proofs::HeadLines::irq_only))]
 pub fn irq_line()
     ensures again { (r : Response) → reads irq_form (line (response_words r)) ≡ Ok (parsed.Irq r) }
     ensures only { (words : Words) (says : ParsedLine) → reads irq_form words ≡ Ok says
@@ -44,6 +46,7 @@ pub fn irq_line()
 {}
 
 /// `stack LO HI MAIN HANDLER`
+#[tactic(auto, using(crate::proofs::HeadLines::stack_only))]
 pub fn stack_line()
     ensures again { (h : Head) (s : StackLine) → StackFits (with_stack h s)
         → reads stack_form (line (stack_line_words s)) ≡ Ok (parsed.Stack s) }
@@ -52,6 +55,7 @@ pub fn stack_line()
 {}
 
 /// `cell ADDRESS OWNER LO HI`, at an address that keeps the order
+#[tactic(auto, using(crate::proofs::HeadLines::cell_only))]
 pub fn cell_line()
     ensures again { (h : Head) (least : ℕ) (c : Cell) → CellFits h c → least ≤ c.at
         → reads (cell_form h.lo h.hi least) (line (cell_words c)) ≡ Ok (parsed.Cell c) }
@@ -60,6 +64,7 @@ pub fn cell_line()
 {}
 
 /// `kind EVENTS LENGTH`, and in version 1 `kind EVENTS`
+#[tactic(auto, using(crate::proofs::ScheduleLines::kind_again, crate::proofs::ScheduleLines::kind_only))]
 pub fn kind_line()
     ensures again { (version : Version) (k : KindLine) → KindLineFits version k
         → reads (kind_form version) (line (kind_words version k.events k.clocks)) ≡ Ok (parsed.Kind k) }
@@ -68,6 +73,7 @@ pub fn kind_line()
 {}
 
 /// `CLOCK sync V`, `CLOCK pixel`, `CLOCK sound` and `CLOCK leave`, at a clock of the line that keeps the order
+#[tactic(auto, using(crate::proofs::ScheduleLines::event_again, crate::proofs::ScheduleLines::event_only))]
 pub fn event_line()
     ensures again { (clocks least : ℕ) (e : Event) → clocks ≤ scanline → EventFits e → e.clock < clocks → least ≤ e.clock
         → reads (event_form clocks least) (line (event_words e)) ≡ Ok (parsed.Event e) }
@@ -76,6 +82,7 @@ pub fn event_line()
 {}
 
 /// `fall CLOCK`
+#[tactic(auto, using(crate::proofs::ScheduleLines::fall_again, crate::proofs::ScheduleLines::fall_only))]
 pub fn fall_line()
     ensures again { (clock : ℕ) → 1 ≤ clock → clock < clock_limit
         → reads fall_form (line (codes "fall" ∷ decimal clock ∷ [])) ≡ Ok (parsed.Fall clock) }
@@ -85,6 +92,7 @@ pub fn fall_line()
 {}
 
 /// `run COUNT KIND`, where so many lines are left, and not of the kind before
+#[tactic(auto, using(crate::proofs::ScheduleLines::run_only))]
 pub fn run_line()
     ensures again { (kinds left before count kind : ℕ) → kinds ≤ 2 ^ 31 → left < 2 ^ 31 → RunFits kinds left before count kind
         → reads (run_form kinds left before) (line (run_words (count, kind))) ≡ Ok (parsed.Run (record { count = count; kind = kind })) }
@@ -94,6 +102,7 @@ pub fn run_line()
 {}
 
 /// `rest LINE CLOCK VECTOR SPANS`, on a line that keeps the order
+#[tactic(auto, using(crate::proofs::ScheduleLines::rest_only))]
 pub fn rest_line()
     ensures again { (h : Head) (lines points least : ℕ) (r : Rest) → PlacesAre h lines points → RestFits h lines points r → least ≤ r.line
         → reads (rest_form lines points h.cells.items least) (line (rest_words r)) ≡ Ok (parsed.Rest r) }
@@ -124,6 +133,7 @@ pub fn point_line()
 {}
 
 /// `end`
+#[tactic(auto, using(crate::proofs::ScheduleLines::end_again, crate::proofs::ScheduleLines::end_only))]
 pub fn end_line()
     ensures again { reads end_form (line (codes "end" ∷ [])) ≡ Ok parsed.End }
     ensures only { (words : Words) (says : ParsedLine) → reads end_form words ≡ Ok says → (says ≡ parsed.End) × (words ≡ line (codes "end" ∷ [])) }
@@ -131,6 +141,7 @@ pub fn end_line()
 
 /// Words that lack the space, of which the first isn't empty, are the words of the line that they make, cut at each space;
 /// and the words of any line make that line.
+#[tactic(auto, using(crate::proofs::Plains::words_again, crate::proofs::Plains::words_only))]
 pub fn words_line()
     ensures again { (w : List ℕ) (ws : List (List ℕ)) → 0 < length w → All (λ v. All (λ b. (b == 32) ≡ false) v) (w ∷ ws)
         → words_of (line_of (w ∷ ws)) ≡ w ∷ ws }

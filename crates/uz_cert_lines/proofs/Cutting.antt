@@ -1,10 +1,8 @@
 -- A line is cut into words one after another.
 use Rattle.std.proofs.Common.{◌≡◌, ℕ, Bool, true, false, cond, eqb, List, [], ◌∷◌, refl, sym, ◌∙◌, ap}
-use Rattle.std.specs.Prelude.{Option, Some, None}
 use Rattle.uz_hex.specs.Cutting.{cut_at, cut_behind}
 use Rattle.uz_cert_lines.specs.Grammar.{with_byte, cut_words, words_left, end_of}
-use Rattle.std.specs.Prelude.{Err, IsSome}
-use Rattle.std.specs.Borrow.{Bor}
+use Rattle.std.specs.{Borrow.Bor, Prelude.Option, Prelude.Some, Prelude.None, Prelude.Err, Prelude.IsSome}
 use Rattle.uz_cert_lines.specs.declared.why.CertWhy.TheVariants as why
 
 -- the words of a text that is cut so

@@ -2,15 +2,11 @@
 use Rattle.std.proofs.Common.{◌≡◌, inl, inr, ℕ, Bool, true, false, List, [], ◌∷◌, refl, sym, ◌∙◌, ap}
 use Rattle.std.specs.Prelude.{Result, Ok, Err}
 use Rattle.uz_schedule.specs.declared.header.Cell.{Cell}
-use Rattle.uz_cert_lines.specs.Why.{◌>>=◌}
-use Rattle.uz_cert_lines.specs.Grammar.{Words}
 use Rattle.uz_cert_lines.specs.Items.{first_facts, take_item, items_end, items_from, read_items}
-use Rattle.uz_cert_lines.specs.FirstFault.{ItemsSay, ItemsFail}
-use Rattle.uz_cert_lines.specs.declared.items.Shape.{Shape}
-use Rattle.uz_cert_lines.specs.declared.items.Facts.{Facts}
-use Rattle.uz_cert_lines.specs.declared.why.CertWhy.{CertWhy}
-use Rattle.uz_cert_lines.specs.declared.why.CertWhy.TheVariants as why
 use Rattle.uz_cert_lines.proofs.Steps.{bind_ok, bind_err, refusal}
+use Rattle.uz_cert_lines.specs.{Why.◌>>=◌, Grammar.Words, declared.items.Shape.Shape, declared.items.Facts.Facts}
+use Rattle.uz_cert_lines.specs.{declared.why.CertWhy.CertWhy, FirstFault.ItemsSay, FirstFault.ItemsFail}
+use Rattle.uz_cert_lines.specs.declared.why.CertWhy.TheVariants as why
 
 end_says : (ended : Bool) (facts said : Facts) → items_end ended facts ≡ Ok said → (ended ≡ true) × (said ≡ facts)
 end_says true facts said e = let same : facts ≡ said = cc in (refl, sym same)

@@ -1,8 +1,7 @@
 -- The lengths that a kind of line may have.
 use Rattle.std.proofs.Common.{◌≡◌, ◌⊎◌, inl, inr, ℕ, ◌+◌, ◌<◌, ◌≤◌, Bool, true, false, ◌||◌, cond, eqb, ltb, refl, sym, subst, arith}
 use Rattle.std.proofs.lemmas.Bool.{ltb-true, ltb-false, eqb-true}
-use Rattle.uz_schedule.specs.Limits.{is_length, most_events}
-use Rattle.uz_schedule.specs.Schedule.{scanline, half_line}
+use Rattle.uz_schedule.specs.{Limits.is_length, Limits.most_events, Schedule.scanline, Schedule.half_line}
 
 pub two_lengths : (n : ℕ) → is_length n ≡ true → (n ≡ half_line) ⊎ (n ≡ scanline)
 two_lengths n e = by (eqb n half_line) (eqb n scanline) refl refl e

@@ -1,15 +1,12 @@
 -- A line is as its form asks, or has one first fault, and reading it says which.
 use Rattle.std.proofs.Common.{◌≡◌, ◌⊎◌, inl, inr, ℕ, Bool, true, false, List, [], ◌∷◌, refl, sym, ◌∙◌, ap}
 use Rattle.std.specs.Prelude.{Result, Ok, Err}
-use Rattle.uz_cert_lines.specs.Why.{◌>>=◌}
 use Rattle.uz_cert_lines.specs.Grammar.{Words, rest_of, missing, first_as, next_as, fixed_of, number_of, choice_of, slope_of, end_of}
-use Rattle.uz_cert_lines.specs.Items.{read_items}
 use Rattle.uz_cert_lines.specs.Forms.{LineForm, fixed, number, choice, slope, spans, items, finish, spans_of, reads}
 use Rattle.uz_cert_lines.specs.FirstFault.{NextIs, NextFails, Allows, HasFirstFault}
 use Rattle.uz_cert_lines.proofs.ItemLaws.{items_say, say_items, items_fail, fail_items}
 use Rattle.uz_cert_lines.proofs.Steps.{bind_ok, bind_err, refusal}
-use Rattle.uz_cert_lines.specs.declared.lines.ParsedLine.{ParsedLine}
-use Rattle.uz_cert_lines.specs.declared.why.CertWhy.{CertWhy}
+use Rattle.uz_cert_lines.specs.{Why.◌>>=◌, Items.read_items, declared.why.CertWhy.CertWhy, declared.lines.ParsedLine.ParsedLine}
 
 abbrev answer : ParsedLine → Result ParsedLine CertWhy
 answer said = Ok said

@@ -2,9 +2,7 @@
 use Rattle.std.proofs.Common.{◌≡◌, List, [], ◌∷◌, ◌++◌, refl, ap, append_assoc}
 use Rattle.std.specs.Prelude.{Result, Ok, Err}
 use Rattle.uz_schedule.specs.Ends.{Ends}
-use Rattle.uz_cert_lines.specs.Grammar.{Words}
-use Rattle.uz_cert_lines.specs.Forms.{with_span}
-use Rattle.uz_cert_lines.specs.declared.why.CertWhy.{CertWhy}
+use Rattle.uz_cert_lines.specs.{Grammar.Words, Forms.with_span, declared.why.CertWhy.CertWhy}
 
 -- the same with these in front
 abbrev pub spans_behind : List Ends → Result (List Ends × Words) CertWhy → Result (List Ends × Words) CertWhy

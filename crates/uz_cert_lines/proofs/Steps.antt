@@ -1,8 +1,7 @@
 -- A step that reads, and then another.
 use Rattle.std.proofs.Common.{◌≡◌, ◌⊎◌, inl, inr, refl, ap}
 use Rattle.std.specs.Prelude.{Result, Ok, Err}
-use Rattle.uz_cert_lines.specs.Why.{◌>>=◌}
-use Rattle.uz_cert_lines.specs.declared.why.CertWhy.{CertWhy}
+use Rattle.uz_cert_lines.specs.{Why.◌>>=◌, declared.why.CertWhy.CertWhy}
 
 abbrev pub refusal : (A : Type 0) → CertWhy → Result A CertWhy
 refusal A w = Err w

@@ -1,16 +1,13 @@
 -- Words and lines that are put one after another are joined by spaces and line ends.
-use Rattle.std.proofs.Common.{◌≡◌, ℕ, List, [], ◌∷◌, ◌++◌, length, map, refl, sym, ◌∙◌, ap, append_assoc, append-nil}
-use Rattle.std.specs.Prelude.{codes}
+use Rattle.uz_cert_writer.proofs.Common.{◌≡◌, ℕ, List, [], ◌∷◌, ◌++◌, length, map, refl, sym, ◌∙◌, ap, append_assoc, append-nil, codes}
+use Rattle.uz_cert_writer.proofs.Common.{Event, Second, line_of, kind_words, event_words, kinds_then, runs_of, cell_words, rest_words}
+use Rattle.uz_cert_writer.proofs.Common.{entry_words, point_words, spaced, ended, line_end, run_lines}
 use Rattle.std.specs.List.{join_with_byte}
-use Rattle.uz_schedule.specs.declared.lines.Event.{Event}
-use Rattle.uz_schedule.specs.declared.certificate.Cert.{Cert}
-use Rattle.uz_schedule.specs.declared.kinds.RuleVersion.{RuleVersion}
 use Rattle.uz_schedule.specs.declared.kinds.RuleVersion.TheVariants.{Two, Three}
-use Rattle.uz_cert_lines.specs.Lines.{head_line, text_version}
-use Rattle.uz_cert_lines.specs.declared.version.Version.TheVariants.{Second, Third}
-use Rattle.uz_cert_writer.specs.Spelling.{line_of, kind_words, event_words, fall_words, kinds_then, runs_of, size_words, irq_words}
-use Rattle.uz_cert_writer.specs.Spelling.{stack_words, cell_words, rest_words, entry_words, point_words, spelling}
-use Rattle.uz_cert_writer.specs.Joined.{spaced, ended, line_end, run_lines, head_text, schedule_text, state_text}
+use Rattle.uz_cert_writer.specs.Spelling.{fall_words, size_words, irq_words, stack_words, spelling}
+use Rattle.uz_cert_writer.specs.Joined.{head_text, schedule_text, state_text}
+use Rattle.uz_schedule.specs.{declared.certificate.Cert.Cert, declared.kinds.RuleVersion.RuleVersion}
+use Rattle.uz_cert_lines.specs.{Lines.head_line, Lines.text_version, declared.version.Version.TheVariants.Third}
 
 pub spaced_append : (xs ys : List (List ℕ)) → spaced (xs ++ ys) ≡ spaced xs ++ spaced ys
 spaced_append [] ys = refl

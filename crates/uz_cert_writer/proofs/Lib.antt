@@ -1,3 +1,4 @@
+pub mod Common
 pub mod Joining
 pub mod Runs
 pub mod Steps

@@ -1,11 +1,9 @@
 -- Lines of one kind that follow each other, counted from the front.
-use Rattle.std.proofs.Common.{◌≡◌, ℕ, ◌+◌, Bool, true, false, cond, eqb, List, [], ◌∷◌, ◌++◌, append_assoc, refl, sym, ◌∙◌, ap, arith}
-use Rattle.std.proofs.Common.{◌<◌, drop, get_or, length}
-use Rattle.std.proofs.lemmas.Bool.Decides.{nat_tests}
-use Rattle.uz_cert_writer.specs.Spelling.{run_before, run_words, runs_of}
-use Rattle.uz_cert_writer.specs.Joined.{ended, line_end, run_lines, run_on}
-use Rattle.uz_cert_writer.proofs.Joining.{line_ended}
-use Rattle.uz_cert_writer.proofs.Steps.{left}
+use Rattle.uz_cert_writer.proofs.Common.{◌≡◌, ℕ, ◌+◌, Bool, true, false, cond, List, [], ◌∷◌, ◌++◌, append_assoc, refl, sym, ◌∙◌, ap}
+use Rattle.uz_cert_writer.proofs.Common.{arith, ◌<◌, drop, get_or, length, runs_of, ended, line_end, run_lines, run_on}
+use Rattle.uz_cert_writer.specs.Spelling.{run_before, run_words}
+use Rattle.std.proofs.{Common.eqb, lemmas.Bool.Decides.nat_tests}
+use Rattle.uz_cert_writer.proofs.{Steps.left, Joining.line_ended}
 
 pub first_run : (kind : ℕ) (runs : List (ℕ × ℕ)) → run_on 1 kind runs ≡ run_before kind runs
 first_run kind [] = refl

@@ -1,16 +1,14 @@
 -- The lines of rests, entries and points, put piece by piece, are their words joined.
-use Rattle.std.proofs.Common.{◌≡◌, ℕ, List, [], ◌∷◌, ◌++◌, map, decimal, codes, refl, sym, ◌∙◌, ap, append_assoc}
-use Rattle.uz_schedule.specs.declared.header.Cell.{Cell}
-use Rattle.uz_schedule.specs.declared.states.Entry.{Entry}
-use Rattle.uz_schedule.specs.declared.states.Point.{Point}
-use Rattle.uz_schedule.specs.declared.states.Rest.{Rest}
-use Rattle.uz_cert_writer.specs.Spelling.{register_items, pair_items, flag_items, slot_items, cell_items, successor_items}
-use Rattle.uz_cert_writer.specs.Spelling.{value_items, listed_items}
+use Rattle.uz_cert_writer.proofs.Common.{◌≡◌, ℕ, List, [], ◌∷◌, ◌++◌, map, decimal, refl, sym, ◌∙◌, ap, append_assoc, Cell, Point}
+use Rattle.uz_cert_writer.proofs.Common.{register_items, pair_items, flag_items, slot_items, cell_items, successor_items, ends_word}
+use Rattle.uz_cert_writer.proofs.Common.{rest_words, entry_words, point_words, spaced, line_end}
+use Rattle.std.proofs.Common.{codes}
+use Rattle.uz_cert_writer.specs.Spelling.{value_items, listed_items, range_facts, entry_items, point_items}
 use Rattle.uz_cert_lines.specs.Named.{NamedItem, named_items, NamedValues, values_of}
-use Rattle.uz_cert_writer.specs.Spelling.{range_facts, ends_word, rest_words, entry_items, entry_words, point_items, point_words}
-use Rattle.uz_cert_writer.specs.Joined.{spaced, line_end, rest_text, entry_place, entry_facts, entry_text, point_place, core_text, memory_text}
-use Rattle.uz_cert_writer.specs.Joined.{listed_text, onward_text, point_text}
+use Rattle.uz_cert_writer.specs.Joined.{rest_text, entry_place, entry_facts, entry_text, point_place, core_text, memory_text, listed_text}
+use Rattle.uz_cert_writer.specs.Joined.{onward_text, point_text}
 use Rattle.uz_cert_writer.proofs.Joining.{spaced_append, join_words}
+use Rattle.uz_schedule.specs.{declared.states.Rest.Rest, declared.states.Entry.Entry}
 
 -- a first word and two lists of others
 line_of_two : (first : List ℕ) (ws vs : List (List ℕ)) → line_end (first ∷ (ws ++ vs)) ≡ first ++ (spaced ws ++ (spaced vs ++ 10 ∷ []))

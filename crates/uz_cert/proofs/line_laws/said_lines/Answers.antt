@@ -1,19 +1,36 @@
-use Rattle.std.proofs.Common.{◌≡◌, ◌-◌, length, arith, refl, sym, subst}
-use Rattle.std.specs.Prelude.{Some, Ok}
-use Rattle.uz_cert_lines.specs.Grammar.{Words}
-use Rattle.uz_cert_lines.specs.Forms.{reads}
-use Rattle.uz_cert_lines.specs.declared.lines.ParsedLine.{ParsedLine}
+use Rattle.uz_cert.proofs.Common.{◌-◌, ◌<◌, ◌≤◌, ◌^◌, length, arith, scanline, length_few, Kept, Draft, ◌≡◌, refl, sym, subst, Some, Ok}
+use Rattle.uz_cert.proofs.Common.{Words, reads, ParsedLine, line, expected_line, form_of, SaidFits, expected_as, said_words, ExpectedLine}
+use Rattle.uz_cert_laws.specs.LineWords.{PlacesAre}
+use Rattle.uz_cert.proofs.{KeptLaws.length_in, ExpectedLineLaws.IsExpected, ExpectedLineLaws.is_expected}
 use Rattle.uz_cert_lines.specs.declared.lines.ParsedLine.TheVariants as parsed
-use Rattle.uz_cert_laws.specs.LineWords.{line}
-use Rattle.uz_cert.specs.Drafts.{expected_line, form_of}
-use Rattle.uz_cert.specs.Kept.{Kept, SaidFits}
-use Rattle.uz_cert.specs.SaidLines.{expected_as, said_words}
-use Rattle.uz_cert.specs.declared.expected_line.ExpectedLine.{ExpectedLine}
 use Rattle.uz_cert.specs.declared.expected_line.ExpectedLine.TheVariants as expected
-use Rattle.uz_cert.specs.declared.draft.Draft.{Draft}
-use Rattle.uz_cert.proofs.ExpectedLineLaws.{IsExpected, is_expected}
-use Rattle.uz_cert.proofs.LineLimits.{places, few_left, kinds_few, lines_left, clocks_few}
 use Rattle.uz_cert.proofs.line_laws.said_lines.Goals as goal
+
+-- what is within limits where a line is due
+
+places : (d : Draft) → Kept d → PlacesAre d.head d.sizes.lines d.sizes.points
+places d k =
+    let few = k.cells.few in
+    let most = k.sizes.cells_few in
+    record {
+      few = omega (arith, few, most);
+      each = k.cells.each;
+      stack = k.stack;
+      lines_few = k.sizes.lines_few;
+      points_few = k.sizes.points_few;
+    }
+
+few_left : (d : Draft) → Kept d → d.left ≤ 2 ^ 30
+few_left d k = let sum = k.states.2.instances in omega (arith, sum)
+
+kinds_few : (d : Draft) → Kept d → d.sizes.kinds ≤ 2 ^ 31
+kinds_few d k = let few = k.sizes.kinds_few in omega (arith, few)
+
+lines_left : (d : Draft) → Kept d → d.sizes.lines - length d.lines < 2 ^ 31
+lines_left d k = let few = k.sizes.lines_few in omega (arith, few)
+
+clocks_few : (d : Draft) → Kept d → d.clocks ≤ scanline
+clocks_few d k = length_few d.clocks (length_in d.version d.clocks k.schedule.0.own)
 
 abbrev IsSaid : Draft → ExpectedLine → Words → ParsedLine → Type 0
 IsSaid d kind words s = (words ≡ line (said_words d.version d.head s)) × (kind ≡ expected_as s) × SaidFits d s

@@ -1,5 +1,4 @@
-use Rattle.std.proofs.Common.{inr, ap, ◌∙◌}
-use Rattle.uz_cert.specs.Reading.{cert_before, pieces_left}
+use Rattle.uz_cert.proofs.Common.{inr, ap, ◌∙◌, cert_before, pieces_left}
 use Rattle.uz_cert.proofs.Steps.{late_piece}
 use Rattle.uz_cert.proofs.reading.finish.Goals as goal
 

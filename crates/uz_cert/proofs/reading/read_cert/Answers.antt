@@ -1,13 +1,6 @@
-use Rattle.std.proofs.Common.{◌≡◌, ◌⊎◌, ℕ, sym, subst}
-use Rattle.std.specs.Prelude.{Ok, Err, IfErr, IfOk}
-use Rattle.uz_schedule.specs.declared.certificate.Cert.{Cert}
-use Rattle.uz_schedule.specs.declared.kinds.RuleVersion.TheVariants.{Two, Three}
-use Rattle.uz_cert_lines.specs.Lines.{rules_of}
-use Rattle.uz_cert_lines.specs.declared.why.CertWhy.{CertWhy}
-use Rattle.uz_cert.specs.Reading.{Gives, IsMemory, cert_of_text, version_told}
-use Rattle.uz_cert.specs.Texts.{IsCertificateText, IsFirstFault}
-use Rattle.uz_cert.proofs.FitLaws.{version_rules}
-use Rattle.uz_cert.proofs.Told.{text_tells}
+use Rattle.uz_cert.proofs.Common.{◌≡◌, ◌⊎◌, ℕ, sym, subst, Ok, Err, IfErr, IfOk, Cert, Two, Three, rules_of, CertWhy, Gives, IsMemory}
+use Rattle.uz_cert.proofs.Common.{cert_of_text, version_told, IsCertificateText, IsFirstFault}
+use Rattle.uz_cert.proofs.{Told.text_tells, NextLine.version_rules}
 use Rattle.uz_cert.proofs.reading.read_cert.Goals as goal
 
 pub returns : goal.returns

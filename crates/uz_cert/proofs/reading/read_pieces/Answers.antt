@@ -1,10 +1,8 @@
-use Rattle.std.proofs.Common.{inl, inr, ◌+◌, ◌<◌, ◌^◌, Err, ap, sym, ◌∙◌, subst, arith}
-use Rattle.std.specs.Prelude.{ℕ, Result}
-use Rattle.uz_schedule.specs.declared.certificate.Cert.{Cert}
-use Rattle.uz_cert_lines.specs.declared.why.CertWhy.{CertWhy}
-use Rattle.uz_cert.specs.Reading.{Fault, bytes_left, pieces_left, pieces_of, read_from}
-use Rattle.uz_cert.proofs.Steps.{step_on, step_fault}
-use Rattle.uz_cert.proofs.Whole.{gives_fits}
+use Rattle.uz_cert.proofs.Common.{inl, inr, ◌+◌, ◌<◌, ◌^◌, ap, sym, ◌∙◌, subst, arith, Result, Cert, CertWhy, Fault, bytes_left}
+use Rattle.uz_cert.proofs.Common.{pieces_left, pieces_of, read_from}
+use Rattle.std.proofs.Common.{Err}
+use Rattle.std.specs.Prelude.{ℕ}
+use Rattle.uz_cert.proofs.{Whole.gives_fits, Steps.step_on, Steps.step_fault}
 use Rattle.uz_cert.proofs.reading.read_pieces.Goals as goal
 
 abbrev fault : ℕ → CertWhy → Result Cert Fault

@@ -1,7 +1,4 @@
-use Rattle.std.proofs.Common.{◌≡◌, ◌+◌, ◌<◌, ◌^◌}
-use Rattle.uz_cert.specs.Drafts.{first_draft}
-use Rattle.uz_cert.specs.Kept.{Kept}
-use Rattle.uz_cert.specs.Reading.{bytes_left, pieces_left, read_from}
+use Rattle.uz_cert.proofs.Common.{◌≡◌, ◌+◌, ◌<◌, ◌^◌, first_draft, Kept, bytes_left, pieces_left, read_from}
 use Rattle.uz_cert.proofs.reading.read_pieces.Given as goal
 
 -- what is left leads where all of it does

@@ -1,6 +1,5 @@
-use Rattle.uz_cert.proofs.FitLaws.{gives_version}
-use Rattle.uz_cert.proofs.Lines.{LineSpelling}
 use Rattle.uz_cert.proofs.TextLaws.{LineLaw, found_text, only_text, first_fault, faulty_text}
+use Rattle.uz_cert.proofs.{Lines.LineSpelling, WholeText.gives_version}
 use Rattle.uz_cert.proofs.reading.read_version.Goals as goal
 
 pub returns : goal.returns

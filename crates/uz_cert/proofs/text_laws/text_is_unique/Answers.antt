@@ -1,23 +1,9 @@
-use Rattle.std.proofs.Common.{◌≡◌, ℕ, List, sym, ◌∙◌, ap, subst}
-use Rattle.std.specs.Prelude.{Result, Ok}
-use Rattle.uz_schedule.specs.WellFormed.{WellFormed}
-use Rattle.uz_schedule.specs.declared.certificate.Cert.{Cert}
-use Rattle.uz_schedule.specs.declared.kinds.RuleVersion.TheVariants.{Two}
-use Rattle.uz_cert_lines.specs.Lines.{text_version}
-use Rattle.uz_cert_lines.specs.declared.version.Version.TheVariants.{First, Second}
-use Rattle.uz_cert_writer.specs.Spelling.{spelling}
-use Rattle.uz_cert.specs.Reading.{Fault, cert_of_text, cert_told, version_told}
-use Rattle.uz_cert.specs.Texts.{IsCertificateText, IsOfVersion, IsToldText, own_text}
-use Rattle.uz_cert.proofs.Lines.{LineSpelling}
+use Rattle.uz_cert.proofs.Common.{◌≡◌, ℕ, List, sym, ◌∙◌, ap, subst, WellFormed, Cert, Two, text_version, First, Second, spelling}
+use Rattle.uz_cert.proofs.Common.{cert_of_text, version_told, IsCertificateText, IsOfVersion}
 use Rattle.uz_cert.proofs.Told.{own_version, told_version, text_tells}
-use Rattle.uz_cert.proofs.WholeText.{spelling_read, text_spelled}
+use Rattle.uz_cert.proofs.{Lines.LineSpelling, TextLaws.told, TextLaws.same_cert, WholeText.spelling_read, WholeText.text_spelled}
+use Rattle.uz_cert.specs.{Reading.cert_told, Texts.IsToldText, Texts.own_text}
 use Rattle.uz_cert.proofs.text_laws.text_is_unique.Goals as goal
-
-abbrev answer : Cert → Result Cert Fault
-answer c = Ok c
-
-same_cert : (a b : Cert) → answer a ≡ answer b → a ≡ b
-same_cert a b e = cc
 
 pub returns : goal.returns
 returns c = record {
@@ -38,10 +24,10 @@ returns c = record {
     l : LineSpelling
     l = record { again = c.said_lines.ensures.again; only = c.said_lines.ensures.only }
 
-    again_2 : (x : Cert) → WellFormed x → x.head.version ≡ Two → cert_of_text Second (spelling Second x) ≡ answer x
+    again_2 : (x : Cert) → WellFormed x → x.head.version ≡ Two → cert_of_text Second (spelling Second x) ≡ told x
     again_2 x w two = spelling_read l Second x w (subst (λ rules. IsOfVersion (text_version rules) x) two (own_version x w))
 
-    again_of : (x : Cert) → WellFormed x → cert_of_text (text_version x.head.version) (own_text x) ≡ answer x
+    again_of : (x : Cert) → WellFormed x → cert_of_text (text_version x.head.version) (own_text x) ≡ told x
     again_of x w = spelling_read l (text_version x.head.version) x w (own_version x w)
 
     is_own : (x : Cert) → WellFormed x → IsCertificateText (text_version x.head.version) (own_text x) x
@@ -50,13 +36,13 @@ returns c = record {
     tells : (x : Cert) → WellFormed x → version_told (own_text x) ≡ text_version x.head.version
     tells x w = text_tells x.head.version (own_text x) x (is_own x w)
 
-    again_own : (x : Cert) → WellFormed x → cert_told (own_text x) ≡ answer x
+    again_own : (x : Cert) → WellFormed x → cert_told (own_text x) ≡ told x
     again_own x w = ap (λ v. cert_of_text v (own_text x)) (tells x w) ∙ again_of x w
 
     is_text_own : (x : Cert) → WellFormed x → IsToldText (own_text x) x
     is_text_own x w = subst (λ v. IsCertificateText v (own_text x) x) (sym (tells x w)) (is_own x w)
 
-    read_own : (t : List ℕ) (x : Cert) → cert_told t ≡ answer x → t ≡ own_text x
+    read_own : (t : List ℕ) (x : Cert) → cert_told t ≡ told x → t ≡ own_text x
     read_own t x e =
         let v = version_told t in
         text_spelled l v t x e

@@ -1,8 +1,5 @@
-use Rattle.uz_cert_laws.proofs.HeadLines.{cell_again, cell_only}
+use Rattle.uz_cert_laws.proofs.HeadLines.{cell_again}
 use Rattle.uz_cert_laws.proofs.line_laws.cell_line.Goals as goal
 
 pub returns-clause-again : goal.returns-clause-again
 returns-clause-again c h least cell f l = cell_again h least cell f l
-
-pub returns-clause-only : goal.returns-clause-only
-returns-clause-only c h least w s e = cell_only h least w s e

@@ -1,4 +1,5 @@
-use Rattle.uz_cert_lines.proofs.LineLaws.{decided, one_said, one_fault, not_both, read_allowed, allowed_read, refused_faulty, faulty_refused}
+use Rattle.uz_cert_lines.proofs.LineLaws.{decided, one_said, one_fault, not_both, read_allowed, allowed_read, refused_faulty}
+use Rattle.uz_cert_lines.proofs.LineLaws.{faulty_refused}
 use Rattle.uz_cert_lines.proofs.laws.line_or_fault.Goals as goal
 
 pub returns-clause-either : goal.returns-clause-either

@@ -1,6 +1,5 @@
 use Rattle.std.proofs.Common.{◌≡◌, length}
-use Rattle.uz_cert_lines.specs.Grammar.{words_left}
-use Rattle.uz_cert_lines.specs.FlagNames.{any_names}
+use Rattle.uz_cert_lines.specs.{Grammar.words_left, FlagNames.any_names}
 use Rattle.uz_cert_lines.proofs.words.any_names_in.Given as goal
 
 -- what is left answers for all

@@ -1,4 +1,4 @@
-use Rattle.std.proofs.Common.{drop, arith}
+use Rattle.uz_cert_writer.proofs.Common.{drop, arith}
 use Rattle.uz_cert_writer.proofs.Steps.{cell_taken, cells_over}
 use Rattle.uz_cert_writer.proofs.items.add_cells.Goals as goal
 

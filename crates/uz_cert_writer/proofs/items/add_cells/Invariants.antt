@@ -1,6 +1,4 @@
-use Rattle.std.proofs.Common.{◌≡◌, ◌++◌, drop}
-use Rattle.uz_cert_writer.specs.Joined.{spaced}
-use Rattle.uz_cert_writer.specs.Spelling.{cell_items}
+use Rattle.uz_cert_writer.proofs.Common.{◌≡◌, ◌++◌, drop, spaced, cell_items}
 use Rattle.uz_cert_writer.proofs.items.add_cells.Given as goal
 
 -- what is written, and what is left

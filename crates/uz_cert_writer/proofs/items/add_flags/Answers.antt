@@ -1,11 +1,8 @@
-use Rattle.std.proofs.Common.{◌<◌, ◌+◌, ◌∷◌, [], length, drop, get_or, refl, arith}
-use Rattle.std.proofs.lemmas.Grind.{common_steps}
-use Rattle.std.specs.Prelude.{codes}
-use Rattle.uz_schedule.specs.WellFormed.{is_default_flag}
-use Rattle.uz_schedule.specs.declared.facts.Bit.TheVariants.{Free}
-use Rattle.uz_cert_writer.specs.Joined.{spaced}
-use Rattle.uz_cert_writer.specs.Spelling.{item, unless, flag_word, flag_item, flag_items}
+use Rattle.uz_cert_writer.proofs.Common.{◌<◌, ◌+◌, ◌∷◌, [], length, drop, get_or, refl, arith, common_steps, codes, spaced, item, unless}
+use Rattle.uz_cert_writer.proofs.Common.{flag_items}
+use Rattle.uz_cert_writer.specs.Spelling.{flag_word, flag_item}
 use Rattle.uz_cert_writer.proofs.Steps.{put, item_left}
+use Rattle.uz_schedule.specs.{WellFormed.is_default_flag, declared.facts.Bit.TheVariants.Free}
 use Rattle.uz_cert_writer.proofs.items.add_flags.Goals as goal
 
 pub loop-b-preserved : goal.loop-b-preserved

@@ -1,8 +1,7 @@
-use Rattle.std.proofs.Common.{◌<◌, ◌≤◌, ◌+◌, ◌∷◌, [], length, drop, get_or, refl, arith, rules}
-use Rattle.std.specs.Prelude.{codes}
+use Rattle.uz_cert_writer.proofs.Common.{◌<◌, ◌≤◌, ◌+◌, ◌∷◌, [], length, drop, get_or, refl, arith, rules, codes, spaced, item, unless}
+use Rattle.uz_cert_writer.proofs.Common.{pair_items}
 use Rattle.uz_cert_lines.specs.Defaults.{is_any_pair}
-use Rattle.uz_cert_writer.specs.Joined.{spaced}
-use Rattle.uz_cert_writer.specs.Spelling.{item, unless, pair_word, pair_item, pair_items}
+use Rattle.uz_cert_writer.specs.Spelling.{pair_word, pair_item}
 use Rattle.uz_cert_writer.proofs.Steps.{put, nothing_left, item_left, items_over}
 use Rattle.uz_cert_writer.proofs.items.add_pairs.Goals as goal
 

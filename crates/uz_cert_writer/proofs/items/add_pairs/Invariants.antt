@@ -1,7 +1,4 @@
-use Rattle.std.proofs.Common.{◌≡◌, ◌++◌, drop}
-use Rattle.std.specs.Prelude.{codes}
-use Rattle.uz_cert_writer.specs.Joined.{spaced}
-use Rattle.uz_cert_writer.specs.Spelling.{pair_items}
+use Rattle.uz_cert_writer.proofs.Common.{◌≡◌, ◌++◌, drop, codes, spaced, pair_items}
 use Rattle.uz_cert_writer.proofs.items.add_pairs.Given as goal
 
 -- what is written, and what is left

@@ -1,5 +1,5 @@
-use Rattle.std.proofs.Common.{◌++◌, codes, arith}
-use Rattle.uz_cert_writer.specs.Spelling.{fact_word}
+use Rattle.uz_cert_writer.proofs.Common.{◌++◌, arith, fact_word}
+use Rattle.std.proofs.Common.{codes}
 use Rattle.uz_cert_writer.proofs.Steps.{word_begun, words_over}
 use Rattle.uz_cert_writer.proofs.items.add_slots.Goals as goal
 

@@ -1,6 +1,4 @@
-use Rattle.std.proofs.Common.{◌≡◌, ◌++◌, drop}
-use Rattle.uz_cert_writer.specs.Joined.{spaced}
-use Rattle.uz_cert_writer.specs.Spelling.{slot_items}
+use Rattle.uz_cert_writer.proofs.Common.{◌≡◌, ◌++◌, drop, spaced, slot_items}
 use Rattle.uz_cert_writer.proofs.items.add_slots.Given as goal
 
 -- what is written, and what is left

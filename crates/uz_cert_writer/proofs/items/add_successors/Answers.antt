@@ -1,4 +1,5 @@
-use Rattle.std.proofs.Common.{◌++◌, codes, decimal, get_or, refl, arith}
+use Rattle.uz_cert_writer.proofs.Common.{◌++◌, decimal, get_or, refl, arith}
+use Rattle.std.proofs.Common.{codes}
 use Rattle.uz_cert_writer.proofs.Steps.{word_begun, words_over}
 use Rattle.uz_cert_writer.proofs.items.add_successors.Goals as goal
 

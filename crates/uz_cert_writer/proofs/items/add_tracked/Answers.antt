@@ -1,4 +1,4 @@
-use Rattle.std.proofs.Common.{sym, ◌∙◌}
+use Rattle.uz_cert_writer.proofs.Common.{sym, ◌∙◌}
 use Rattle.uz_cert_writer.proofs.Steps.{cell_added, cell_passed, cell_missing}
 use Rattle.uz_cert_writer.proofs.items.add_tracked.Goals as goal
 

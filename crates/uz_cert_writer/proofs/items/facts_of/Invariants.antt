@@ -1,4 +1,5 @@
-use Rattle.std.proofs.Common.{◌≡◌, take, map, length}
+use Rattle.uz_cert_writer.proofs.Common.{◌≡◌, map, length}
+use Rattle.std.proofs.Common.{take}
 use Rattle.uz_cert_lines.specs.Defaults.{range_fact}
 use Rattle.uz_cert_writer.proofs.items.facts_of.Given as goal
 

@@ -1,5 +1,4 @@
-use Rattle.std.proofs.Common.{arith, refl}
-use Rattle.uz_cert_writer.specs.Spelling.{event_words}
+use Rattle.uz_cert_writer.proofs.Common.{arith, refl, event_words}
 use Rattle.uz_cert_writer.proofs.Steps.{line_added, lines_over}
 use Rattle.uz_cert_writer.proofs.schedule_lines.add_events.Goals as goal
 

@@ -1,6 +1,4 @@
-use Rattle.std.proofs.Common.{◌≡◌, ◌++◌, drop, map}
-use Rattle.uz_cert_writer.specs.Joined.{ended}
-use Rattle.uz_cert_writer.specs.Spelling.{line_of, event_words}
+use Rattle.uz_cert_writer.proofs.Common.{◌≡◌, ◌++◌, drop, map, ended, line_of, event_words}
 use Rattle.uz_cert_writer.proofs.schedule_lines.add_events.Given as goal
 
 -- what is written, and what is left

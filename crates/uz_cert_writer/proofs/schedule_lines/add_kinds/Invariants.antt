@@ -1,7 +1,4 @@
-use Rattle.std.proofs.Common.{◌≡◌, ◌++◌, drop, []}
-use Rattle.uz_cert_lines.specs.declared.version.Version.TheVariants.{Second}
-use Rattle.uz_cert_writer.specs.Joined.{ended}
-use Rattle.uz_cert_writer.specs.Spelling.{kinds_then}
+use Rattle.uz_cert_writer.proofs.Common.{◌≡◌, ◌++◌, drop, [], Second, ended, kinds_then}
 use Rattle.uz_cert_writer.proofs.schedule_lines.add_kinds.Given as goal
 
 -- what is written, and what is left

@@ -1,4 +1,4 @@
-use Rattle.std.proofs.Common.{ℕ, ◌+◌, ◌≤◌, arith, get_or, refl}
+use Rattle.uz_cert_writer.proofs.Common.{ℕ, ◌+◌, ◌≤◌, arith, get_or, refl}
 use Rattle.uz_cert_writer.proofs.Runs.{run_taken}
 use Rattle.uz_cert_writer.proofs.schedule_lines.add_runs_from.Goals as goal
 

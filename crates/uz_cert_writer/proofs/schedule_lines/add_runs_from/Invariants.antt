@@ -1,6 +1,4 @@
-use Rattle.std.proofs.Common.{◌≡◌, ◌≤◌, ◌++◌, ◌+◌, ◌∷◌, drop}
-use Rattle.uz_cert_writer.specs.Joined.{ended, run_lines, run_on}
-use Rattle.uz_cert_writer.specs.Spelling.{runs_of}
+use Rattle.uz_cert_writer.proofs.Common.{◌≡◌, ◌≤◌, ◌++◌, ◌+◌, ◌∷◌, drop, ended, run_lines, run_on, runs_of}
 use Rattle.uz_cert_writer.proofs.schedule_lines.add_runs_from.Given as goal
 
 -- what is written, the run so far, and what is left

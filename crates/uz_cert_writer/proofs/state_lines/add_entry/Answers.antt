@@ -1,4 +1,4 @@
-use Rattle.std.proofs.Common.{◌++◌, ◌∙◌, ap}
+use Rattle.uz_cert_writer.proofs.Common.{◌++◌, ◌∙◌, ap}
 use Rattle.std.specs.Prelude.{ℕ, List}
 use Rattle.uz_cert_writer.proofs.WholeLines.{entry_is}
 use Rattle.uz_cert_writer.proofs.state_lines.add_entry.Goals as goal

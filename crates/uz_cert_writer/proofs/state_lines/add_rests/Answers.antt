@@ -1,5 +1,4 @@
-use Rattle.std.proofs.Common.{arith}
-use Rattle.uz_cert_writer.specs.Spelling.{rest_words}
+use Rattle.uz_cert_writer.proofs.Common.{arith, rest_words}
 use Rattle.uz_cert_writer.proofs.Steps.{line_added, lines_over}
 use Rattle.uz_cert_writer.proofs.state_lines.add_rests.Goals as goal
 

@@ -1,6 +1,4 @@
-use Rattle.std.proofs.Common.{◌≡◌, ◌++◌, drop, map}
-use Rattle.uz_cert_writer.specs.Joined.{ended}
-use Rattle.uz_cert_writer.specs.Spelling.{line_of, rest_words}
+use Rattle.uz_cert_writer.proofs.Common.{◌≡◌, ◌++◌, drop, map, ended, line_of, rest_words}
 use Rattle.uz_cert_writer.proofs.state_lines.add_rests.Given as goal
 
 -- what is written, and what is left

@@ -1,6 +1,4 @@
-use Rattle.std.proofs.Common.{◌≡◌, ◌++◌, drop, map}
-use Rattle.uz_cert_writer.specs.Joined.{spaced}
-use Rattle.uz_cert_writer.specs.Spelling.{ends_word}
+use Rattle.uz_cert_writer.proofs.Common.{◌≡◌, ◌++◌, drop, map, spaced, ends_word}
 use Rattle.uz_cert_writer.proofs.state_lines.add_spans.Given as goal
 
 -- what is written, and what is left

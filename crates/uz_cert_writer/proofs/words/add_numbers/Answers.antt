@@ -1,4 +1,4 @@
-use Rattle.std.proofs.Common.{decimal, get_or, refl, arith}
+use Rattle.uz_cert_writer.proofs.Common.{decimal, get_or, refl, arith}
 use Rattle.uz_cert_writer.proofs.Steps.{word_put, words_over}
 use Rattle.uz_cert_writer.proofs.words.add_numbers.Goals as goal
 

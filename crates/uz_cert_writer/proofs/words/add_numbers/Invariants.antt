@@ -1,5 +1,4 @@
-use Rattle.std.proofs.Common.{◌≡◌, ◌++◌, drop, map, decimal}
-use Rattle.uz_cert_writer.specs.Joined.{spaced}
+use Rattle.uz_cert_writer.proofs.Common.{◌≡◌, ◌++◌, drop, map, decimal, spaced}
 use Rattle.uz_cert_writer.proofs.words.add_numbers.Given as goal
 
 -- what is written, and what is left

@@ -1,5 +1,4 @@
-use Rattle.std.proofs.Common.{arith}
-use Rattle.std.proofs.lemmas.Grind.{common_steps}
+use Rattle.uz_cert_writer.proofs.Common.{arith, common_steps}
 use Rattle.uz_cert_writer.proofs.Steps.{lengths_count}
 use Rattle.uz_cert_writer.proofs.writing.add_schedule.Goals as goal
 

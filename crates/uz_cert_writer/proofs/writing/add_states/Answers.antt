@@ -1,8 +1,6 @@
-use Rattle.std.proofs.Common.{◌≡◌, ◌++◌, ◌∙◌, ap, map, codes, List, rules}
-use Rattle.uz_schedule.specs.declared.header.Cell.{Cell}
-use Rattle.uz_schedule.specs.declared.states.Point.{Point}
-use Rattle.uz_cert_writer.specs.Joined.{ended, line_end}
-use Rattle.uz_cert_writer.specs.Spelling.{line_of, rest_words, entry_words, point_words}
+use Rattle.uz_cert_writer.proofs.Common.{◌≡◌, ◌++◌, ◌∙◌, ap, map, List, rules, Cell, Point, ended, line_end, line_of, rest_words}
+use Rattle.uz_cert_writer.proofs.Common.{entry_words, point_words}
+use Rattle.std.proofs.Common.{codes}
 use Rattle.uz_cert_writer.proofs.Steps.{added_four}
 use Rattle.uz_cert_writer.proofs.writing.add_states.Goals as goal
 

@@ -1,4 +1,4 @@
-use Rattle.std.proofs.Common.{◌++◌, sym, ◌∙◌, ap}
+use Rattle.uz_cert_writer.proofs.Common.{◌++◌, sym, ◌∙◌, ap}
 use Rattle.std.specs.Prelude.{ℕ, List}
 use Rattle.uz_cert_writer.proofs.Joining.{spelling_parts}
 use Rattle.uz_cert_writer.proofs.writing.add_text.Goals as goal

@@ -1,4 +1,4 @@
-use Rattle.std.proofs.Common.{◌≡◌, ◌++◌, replicate}
+use Rattle.uz_cert.proofs.Common.{◌≡◌, ◌++◌, replicate}
 use Rattle.uz_cert.proofs.draft.Draft.put_run.Given as goal
 
 -- so many lines of the run are there

@@ -1,5 +1,4 @@
-use Rattle.std.proofs.Common.{◌≡◌, subst}
-use Rattle.uz_cert_lines.specs.Forms.{reads}
+use Rattle.uz_cert.proofs.Common.{◌≡◌, subst, reads}
 use Rattle.uz_cert_lines.specs.Lines.{rest_form}
 use Rattle.uz_cert.proofs.draft.Draft.rest.Goals as goal
 

@@ -1,5 +1,4 @@
-use Rattle.std.proofs.Common.{sym, ◌∙◌, ap}
-use Rattle.std.specs.Prelude.{Some}
+use Rattle.uz_cert.proofs.Common.{sym, ◌∙◌, ap, Some}
 use Rattle.uz_cert.proofs.KeptLaws.{kept_read}
 use Rattle.uz_cert.proofs.draft.Draft.take.Goals as goal
 
