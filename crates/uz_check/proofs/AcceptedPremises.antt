@@ -1,24 +1,8 @@
 -- What is accepted meets all premises of the induction.
-use Rattle.std.proofs.Common.{◌≡◌, ◌<◌, Contains, ℕ, refl}
-use Rattle.std.specs.Prelude.{Some, slice_get}
-use Rattle.std.specs.Ordering.{nat_cmp}
-use Rattle.std.specs.FinMap.{FinMap}
-use Rattle.uz_hex.specs.Cells.{IsFlash}
-use Rattle.uz_core.specs.PadLine.{PadHistory}
-use Rattle.uz_core.specs.StateRange.{IsState}
-use Rattle.uz_core.specs.Turn.{State}
-use Rattle.uz_console.specs.Entry.{EntryCondition}
-use Rattle.uz_schedule.specs.Instances.{instance_in, instance_at, entry_instance, rest_instance}
-use Rattle.uz_schedule.specs.WellFormed.{WellFormed, EntryKindFits}
-use Rattle.uz_schedule.specs.declared.kinds.Kind.{Kind}
-use Rattle.uz_schedule.specs.declared.kinds.Kind.TheVariants.{Main, Handler, Alone}
-use Rattle.uz_schedule.specs.declared.states.Rest.{Rest}
-use Rattle.uz_schedule.specs.declared.states.Instance.{Instance}
-use Rattle.uz_schedule.specs.declared.certificate.Cert.{Cert}
-use Rattle.uz_schedule.specs.Schedule.{length_of}
-use Rattle.uz_check.specs.Steady.{IsSteady}
-use Rattle.uz_check.specs.FrameRules.{RestPasses}
-use Rattle.uz_check.specs.Acceptance.{Accepts}
+use Rattle.uz_check.proofs.Common.{◌≡◌, ◌<◌, Contains, ℕ, refl, Some, slice_get, nat_cmp, FinMap, IsFlash, PadHistory, IsState, State}
+use Rattle.uz_check.proofs.Common.{EntryCondition, instance_in, instance_at, entry_instance, rest_instance, WellFormed, Kind, Main, Handler}
+use Rattle.uz_check.proofs.Common.{Alone, Rest, Instance, Cert, length_of, IsSteady, RestPasses, Accepts}
+use Rattle.uz_schedule.specs.WellFormed.{EntryKindFits}
 use Rattle.uz_check.proofs.Fits.{HasRest}
 use Rattle.uz_check.proofs.Premises.{LocalHolds, RestHolds, RuleLaws, Premises}
 use Rattle.uz_check.proofs.Fitting.{opened, of_point}

@@ -1,38 +1,17 @@
 -- A state that meets the entry condition has the invariant.
-use Rattle.std.proofs.Common.{◌≡◌, inl, inr, ℕ, zero, suc, ◌+◌, ◌-◌, ◌*◌, ◌<◌, Bool, List, [], ◌∷◌, length, map, refl, sym, ◌∙◌, ap, subst}
-use Rattle.std.proofs.Common.{arith}
-use Rattle.std.specs.Prelude.{unwrap_or, slice_index}
-use Rattle.std.specs.Ordering.{nat_cmp}
-use Rattle.std.specs.FinMap.{FinMap}
-use Rattle.std.proofs.lemmas.List.{length-map}
-use Rattle.uz_schedule.specs.Ends.{Ends}
-use Rattle.uz_schedule.specs.declared.facts.Bit.{Bit}
-use Rattle.uz_schedule.specs.declared.facts.Bit.TheVariants.{Zero, One, Free, Old as OldBit}
+use Rattle.uz_check.proofs.Common.{◌≡◌, inl, inr, ℕ, zero, suc, ◌+◌, ◌-◌, ◌*◌, ◌<◌, Bool, List, [], ◌∷◌, length, map, refl, sym, ◌∙◌, ap}
+use Rattle.uz_check.proofs.Common.{subst, arith, unwrap_or, slice_index, nat_cmp, FinMap, length-map, Ends, Bit, Zero, One, Free, OldBit}
+use Rattle.uz_check.proofs.Common.{Kind, Main, Handler, Alone, Cert, bit_is_set, Core, register, pair, PadHistory, State, sync_level}
+use Rattle.uz_check.proofs.Common.{IsState, IsWithin, value_at, pair_at, ValueHolds, FlagHolds, CoreMeets, HeaderHolds, depth_below}
+use Rattle.uz_check.proofs.Common.{is_main, depth_of, TimerMeets, TimerCounts, LevelMeets, entry_instance, tracked, IsIn, EntryBit, AllHold}
+use Rattle.uz_check.proofs.Common.{ends_at, Begins, EntryCondition, Certified, RunsAlone, RunsMain, Invariant, at_same, level_here}
 use Rattle.uz_schedule.specs.declared.facts.Val.TheVariants.{Range}
-use Rattle.uz_schedule.specs.declared.kinds.Kind.{Kind}
-use Rattle.uz_schedule.specs.declared.kinds.Kind.TheVariants.{Main, Handler, Alone}
-use Rattle.uz_schedule.specs.declared.certificate.Cert.{Cert}
-use Rattle.uz_core.specs.Arithmetic.{bit_is_set}
-use Rattle.uz_core.specs.Core.{Core, register, pair}
-use Rattle.uz_core.specs.PadLine.{PadHistory}
-use Rattle.uz_core.specs.Turn.{State, sync_level}
-use Rattle.uz_core.specs.StateRange.{IsState}
 use Rattle.uz_schedule.specs.Ends.{hull}
-use Rattle.uz_range.specs.Containment.{IsWithin}
-use Rattle.uz_transfer.specs.Values.{value_at, pair_at, byte_hull}
-use Rattle.uz_rules.specs.CoreMeets.{ValueHolds, FlagHolds, CoreMeets}
-use Rattle.uz_rules.specs.MemoryMeets.{HeaderHolds, MemoryMeets, depth_below}
-use Rattle.uz_transfer.specs.Kinds.{is_main}
-use Rattle.uz_transfer.specs.Memory.{depth_of}
-use Rattle.uz_rules.specs.Meets.{TimerMeets, TimerCounts, LevelMeets}
-use Rattle.uz_schedule.specs.Instances.{entry_instance}
-use Rattle.uz_schedule.specs.Tracked.{tracked}
-use Rattle.uz_console.specs.Entry.{IsIn, BitHolds as EntryBit, CellsHold as AllHold, ends_at, Begins, EntryCondition}
-use Rattle.uz_check.specs.Certified.{Certified}
+use Rattle.uz_transfer.specs.Values.{byte_hull}
+use Rattle.uz_rules.specs.MemoryMeets.{MemoryMeets}
 use Rattle.uz_check.proofs.Fits.{SpansFit}
 use Rattle.uz_check.proofs.Premises.{Premises}
-use Rattle.uz_check.specs.Invariant.{RunsAlone, RunsMain, Invariant, BeginsWithIt}
-use Rattle.uz_schedule.proofs.Places.{at_same, level_here}
+use Rattle.uz_check.specs.Invariant.{BeginsWithIt}
 use Rattle.uz_check.proofs.Fitting.{is_placed}
 use Rattle.uz_check.proofs.Cells.{main_or_handler, cells_by_place, in_own_range, head_holds}
 use Rattle.uz_check.proofs.BoxesCovered.{place_tells, lands}
@@ -54,20 +33,16 @@ pair_holds a b v u h g = record { above = omega (arith, h.0, g.0); below = omega
 hull_is : (xs : List Ends) (r : ℕ) → hull (ends_at xs r) (ends_at xs (r + 1)) ≡ byte_hull (map Range xs) r
 hull_is xs r = rw (val_ranges xs r, val_ranges xs (r + 1)) refl
 
+pair_in : (xs : List Ends) (core : Core) → ((r : ℕ) → r < 32 → IsIn (ends_at xs r) (register core r)) → (r : ℕ) → r + 1 < 32
+    → IsWithin (pair core r) (byte_hull (map Range xs) r)
+pair_in xs core h r few = subst (λ w. IsWithin (pair core r) w) (hull_is xs r) (pair_holds (ends_at xs r) (ends_at xs (r + 1))
+    (register core r) (register core (r + 1)) (h r (omega (arith, few))) (h (r + 1) few))
+
 pairs_hold : (cert : Cert) (core : Core) → ((r : ℕ) → r < 32 → IsIn (ends_at cert.entry.regs r) (register core r)) → (i : ℕ) → i < 3
     → IsWithin (pair core (26 + 2 * i)) (pair_at (entry_instance cert).pairs i)
-pairs_hold cert core h zero b =
-    let xs = cert.entry.regs in
-    subst (λ w. IsWithin (pair core 26) w) (hull_is xs 26) (pair_holds (ends_at xs 26) (ends_at xs 27) (register core 26) (register core 27)
-    (h 26 (omega arith)) (h 27 (omega arith)))
-pairs_hold cert core h (suc zero) b =
-    let xs = cert.entry.regs in
-    subst (λ w. IsWithin (pair core 28) w) (hull_is xs 28) (pair_holds (ends_at xs 28) (ends_at xs 29) (register core 28) (register core 29)
-    (h 28 (omega arith)) (h 29 (omega arith)))
-pairs_hold cert core h (suc (suc zero)) b =
-    let xs = cert.entry.regs in
-    subst (λ w. IsWithin (pair core 30) w) (hull_is xs 30) (pair_holds (ends_at xs 30) (ends_at xs 31) (register core 30) (register core 31)
-    (h 30 (omega arith)) (h 31 (omega arith)))
+pairs_hold cert core h zero b = pair_in cert.entry.regs core h 26 (omega arith)
+pairs_hold cert core h (suc zero) b = pair_in cert.entry.regs core h 28 (omega arith)
+pairs_hold cert core h (suc (suc zero)) b = pair_in cert.entry.regs core h 30 (omega arith)
 pairs_hold cert core h (suc (suc (suc i))) b = absurd (omega (arith, b))
 
 -- a flag that is known, beside itself
@@ -103,8 +78,7 @@ entry_memory cert s p kind h of_kind none fit ranges =
 
 entry_level : (kind : Kind) (sync level : ℕ) → sync ≡ level → LevelMeets kind level sync
 entry_level Main sync level e = tt
-entry_level Handler sync level e = e
-entry_level Alone sync level e = e
+entry_level kind sync level e = e
 
 begins : (image : FinMap nat_cmp ℕ) (cert : Cert) (s : State PadHistory) (p : ℕ) → Premises image cert → IsState s → s.image ≡ image
     → EntryCondition cert s p → (kind : Kind) → cert.entry.kind ≡ kind → Begins kind cert s p → Invariant image cert p s

@@ -1,30 +1,12 @@
 -- The cells that a kind tracks: in a list with their ranges, and by their addresses.
-use Rattle.std.proofs.Common.{◌≡◌, ◌⊎◌, inl, inr, Contains, ℕ, zero, suc, ◌-◌, ◌<◌, ◌≤◌, Bool, true, false, cond, List, [], ◌∷◌, filter}
-use Rattle.std.proofs.Common.{refl, sym, ◌∙◌, ap, subst, arith}
-use Rattle.std.specs.Prelude.{Some, None, nat_eq, slice_index, if◌then◌else◌}
-use Rattle.std.proofs.lemmas.Bool.Decides.{eqb_tells}
-use Rattle.uz_schedule.specs.Ends.{Ends}
-use Rattle.uz_schedule.specs.declared.kinds.Kind.{Kind}
-use Rattle.uz_schedule.specs.declared.kinds.Kind.TheVariants.{Main, Handler, Alone}
-use Rattle.uz_schedule.specs.declared.kinds.Owner.{Owner}
-use Rattle.uz_schedule.specs.declared.kinds.Owner.TheVariants.{Main as MainOwner, Handler as HandlerOwner}
-use Rattle.uz_schedule.specs.declared.header.Cell.{Cell}
-use Rattle.uz_schedule.specs.declared.header.Head.{Head}
-use Rattle.uz_schedule.specs.Tracked.{tracks as kind_tracks, tracked}
-use Rattle.uz_core.specs.PadLine.{PadHistory}
-use Rattle.uz_core.specs.Turn.{State}
-use Rattle.uz_range.specs.Containment.{IsWithin}
-use Rattle.uz_transfer.specs.Values.{span_at}
-use Rattle.uz_rules.specs.MemoryMeets.{HeadFits, CellsHold, HeaderHolds}
-use Rattle.uz_transfer.specs.Kinds.{tracks, place_from, cell_place, range_from, cell_range}
-use Rattle.uz_console.specs.Entry.{IsIn, CellsHold as AllHold}
+use Rattle.uz_check.proofs.Common.{◌≡◌, ◌⊎◌, inl, inr, Contains, ℕ, zero, suc, ◌-◌, ◌<◌, ◌≤◌, Bool, true, false, cond, List, [], ◌∷◌}
+use Rattle.uz_check.proofs.Common.{filter, refl, sym, ◌∙◌, ap, subst, arith, Some, None, nat_eq, slice_index, if◌then◌else◌, eqb_tells}
+use Rattle.uz_check.proofs.Common.{Ends, Kind, Main, Handler, Owner, MainOwner, HandlerOwner, Cell, Head, kind_tracks, tracked, PadHistory}
+use Rattle.uz_check.proofs.Common.{State, IsWithin, span_at, CellsHold, HeaderHolds, cell_place, cell_range, IsIn, AllHold, pushed}
+use Rattle.uz_rules.specs.MemoryMeets.{HeadFits}
+use Rattle.uz_transfer.specs.Kinds.{tracks, place_from, range_from}
 use Rattle.uz_check.proofs.Fits.{HeadLimits, SpansFit}
-use Rattle.uz_check.specs.Invariant.{pushed}
 use Rattle.uz_check.proofs.Ram.{pushed_off}
-
-pub bool_cases : (b : Bool) → (b ≡ true) ⊎ (b ≡ false)
-bool_cases true = inl refl
-bool_cases false = inr refl
 
 -- the tracked cells of a list, by whom each is written
 abbrev pub kept_by : Kind → List Cell → List Cell
@@ -39,10 +21,8 @@ owners kind test same (c ∷ cells) =
 
 same_owners : (kind : Kind) (o : Owner) → tracks kind o ≡ kind_tracks kind o
 same_owners Main MainOwner = refl
-same_owners Main HandlerOwner = refl
 same_owners Handler MainOwner = refl
-same_owners Handler HandlerOwner = refl
-same_owners Alone owner = refl
+same_owners kind o = refl
 
 pub tracked_is : (head : Head) (kind : Kind) → tracked head kind ≡ kept_by kind head.cells.items
 tracked_is head kind = sym (owners kind (kind_tracks kind) (same_owners kind) head.cells.items)

@@ -1,25 +1,14 @@
 -- Each sync edge of a run brings another level than the one before it.
-use Rattle.std.proofs.Common.{◌≡◌, ◌≢◌, inl, inr, ℕ, zero, suc, ◌+◌, ◌%◌, ◌<◌, Bool, true, false, not, cond, List, [], ◌∷◌, ◌++◌}
-use Rattle.std.proofs.Common.{append_assoc, append-nil, refl, sym, ◌∙◌, ap, subst, arith}
-use Rattle.std.specs.Prelude.{⊤, ◌==◌, ◌&&◌, ◌||◌, slice_index}
-use Rattle.std.proofs.lemmas.Bool.Decides.{nat_tests}
-use Rattle.std.proofs.lemmas.List.{reverse-append}
-use Rattle.uz_core.specs.declared.machine.HeldStore.{HeldStore}
-use Rattle.uz_core.specs.declared.machine.Edge.{Edge}
-use Rattle.uz_core.specs.declared.machine.EdgeKind.{EdgeKind}
-use Rattle.uz_core.specs.declared.machine.EdgeKind.TheVariants.{Sync, Pixel, Sound, Enter, Leave}
+use Rattle.uz_check.proofs.Common.{cond_both, eqb-true, ◌≡◌, ◌≢◌, inl, inr, ℕ, zero, suc, ◌+◌, ◌%◌, ◌<◌, Bool, true, false, not, cond, List}
+use Rattle.uz_check.proofs.Common.{[], ◌∷◌, ◌++◌, append_assoc, refl, sym, ◌∙◌, ap, subst, arith, ⊤, ◌==◌, ◌&&◌, ◌||◌, slice_index}
+use Rattle.uz_check.proofs.Common.{nat_tests, reverse-append, HeldStore, Edge, EdgeKind, Enter, clocks_of, content_after_loads}
+use Rattle.uz_check.proofs.Common.{is_core_address, load_addresses, sample_clock, effect_of, PadHistory, Space, PadWiring, after_store}
+use Rattle.uz_check.proofs.Common.{history_wiring, is_store, plain_byte, space_after, space_loads, space_taken, State, Turn, address_of}
+use Rattle.uz_check.proofs.Common.{after_stores, all_edge_kinds, edge_kinds, edges_at, entry_edges, entry_stores, instruction_edges}
+use Rattle.uz_check.proofs.Common.{instruction_result, sync_level, Run, TurnBefore, is_high, newest_first, Pixel, Sound, Leave}
+use Rattle.std.proofs.Common.{append-nil}
+use Rattle.uz_core.specs.declared.machine.EdgeKind.TheVariants.{Sync}
 use Rattle.uz_core.specs.Addresses.{PORTB, PINC, PORTC, OCR2A}
-use Rattle.avr_table.specs.Rows.{clocks_of}
-use Rattle.uz_core.specs.Core.{content_after_loads, is_core_address, load_addresses, sample_clock}
-use Rattle.uz_core.specs.Effects.{effect_of}
-use Rattle.uz_core.specs.PadLine.{PadHistory}
-use Rattle.uz_core.specs.Space.{Space, PadWiring, after_store, history_wiring, is_store, plain_byte, space_after, space_loads}
-use Rattle.uz_core.specs.Space.{space_taken}
-use Rattle.uz_core.specs.Turn.{State, Turn, address_of, after_stores, all_edge_kinds, edge_kinds, edges_at, entry_edges, entry_stores}
-use Rattle.uz_core.specs.Turn.{instruction_edges, instruction_result, sync_level}
-use Rattle.uz_core.specs.Run.{Run, TurnBefore}
-use Rattle.uz_scan.specs.Lines.{is_high}
-use Rattle.uz_scan.specs.Pictures.{newest_first}
 
 -- Histories, newest first
 
@@ -61,9 +50,6 @@ high_of space = not (sync_level space == 0)
 abbrev Tells : {P : Type 0} → List Edge → Space P → Type 0
 Tells before space = Changes before × (is_high before ≡ high_of space)
 
-equal : (a b : ℕ) → (a == b) ≡ true → a ≡ b
-equal a b e = grind (arith, nat_tests)
-
 unlike : (a b : ℕ) → a < 2 → b < 2 → (a == b) ≡ false → not (b == 0) ≡ not (a == 0) → ⊥
 unlike a b p q e f = grind (arith, nat_tests)
 
@@ -94,7 +80,7 @@ store_step {P} store old new clock before h =
     store_tells (sync_level old == sync_level new) (is_store store && (address_of store == PORTC || address_of store == PINC))
     (is_store store && address_of store == OCR2A)
     (sync_level new) (plain_byte new PORTC) (plain_byte new OCR2A) clock before
-    (λ e. h.1 ∙ ap (λ n. not (n == 0)) (equal (sync_level old) (sync_level new) e))
+    (λ e. h.1 ∙ ap (λ n. not (n == 0)) (eqb-true (sync_level old) (sync_level new) e))
     (λ e f. unlike (sync_level old) (sync_level new) low next e (f ∙ h.1)) h.0
 
 -- Stores in order
@@ -119,17 +105,13 @@ leave_step : {P : Type 0} (returned : Bool) (space : Space P) (clock : ℕ) (bef
 leave_step {P} true space clock before h = ((tt, h.0), h.1)
 leave_step {P} false space clock before h = h
 
-choose : {S : Type 0} (Holds : S → Type 0) (b : Bool) (x y : S) → Holds x → Holds y → Holds (cond b x y)
-choose {S} Holds true x y p q = p
-choose {S} Holds false x y p q = q
-
 -- loads change no byte
 loads_keep : {P : Type 0} (wiring : PadWiring P) (late : ℕ) (space : Space P) (addresses : List ℕ)
     → (content_after_loads (space_loads wiring) late space addresses).bytes ≡ space.bytes
 loads_keep {P} wiring late space [] = refl
 loads_keep {P} wiring late space (at ∷ addresses) =
-    choose (λ (s : Space P). s.bytes ≡ space.bytes) (is_core_address at) _ _ (loads_keep wiring late space addresses)
-    (loads_keep wiring late ((space_loads wiring).content_after space at late) addresses)
+    cond_both (is_core_address at) _ _ (λ (s : Space P). s.bytes ≡ space.bytes) (λ _. loads_keep wiring late space addresses)
+    (λ _. loads_keep wiring late ((space_loads wiring).content_after space at late) addresses)
 
 -- Turns and runs
 

@@ -1,15 +1,9 @@
 -- Lines that are in the box of every named successor.
-use Rattle.std.proofs.Common.{◌≡◌, inl, inr, ℕ, zero, suc, ◌+◌, ◌-◌, ◌<◌, ◌≤◌, Bool, true, false, not, nat_lt, List, [], ◌∷◌, length, refl}
-use Rattle.std.proofs.Common.{sym, ◌∙◌, arith}
-use Rattle.std.specs.Prelude.{◌&&◌, Option, Some, None, slice_get}
-use Rattle.std.specs.List.{list_all}
-use Rattle.std.proofs.lemmas.Bool.Decides.{eqb_tells, nat_tests}
-use Rattle.uz_schedule.specs.Schedule.{next_line}
-use Rattle.uz_schedule.specs.declared.lines.Schedule.{Schedule}
-use Rattle.uz_schedule.specs.declared.states.Point.{Point}
-use Rattle.uz_schedule.specs.declared.certificate.Cert.{Cert}
-use Rattle.uz_check.specs.Folding.{lines_alike, is_plain, is_on_line, is_even, boxes_even}
-use Rattle.uz_check.specs.Untold.{is_told, IsRun, HoldTo, IsReach}
+use Rattle.uz_check.proofs.Common.{and_from, not-false, ◌≡◌, inl, inr, ℕ, zero, suc, ◌+◌, ◌-◌, ◌<◌, ◌≤◌, true, false, not, nat_lt, List, []}
+use Rattle.uz_check.proofs.Common.{◌∷◌, length, refl, sym, ◌∙◌, arith, Option, Some, None, slice_get, list_all, eqb_tells, nat_tests}
+use Rattle.uz_check.proofs.Common.{next_line, Schedule, Point, Cert, lines_alike, is_plain, is_on_line, is_even, boxes_even, is_implied}
+use Rattle.uz_check.proofs.Common.{IsRun, HoldTo}
+use Rattle.uz_check.specs.ImpliedLines.{IsReach}
 use Rattle.uz_check.specs.declared.reach.Reach.{Reach}
 
 -- a line that isn't the frame's last
@@ -50,29 +44,16 @@ pub covered_even : (cert : Cert) (p : Point) (reach : Reach) (l : ℕ) → IsRea
 covered_even cert p reach l is low high = sym (all_held cert l reach.first reach.last p.next.items low (omega (arith, high)) is.inside
     is.boxes)
 
--- What is told without a look at the successors
+-- What is implied without a look at the successors
 
-and_both : (a b : Bool) → a ≡ true → b ≡ true → (a && b) ≡ true
-and_both true true h g = refl
-and_both true false h g = absurd cc
-and_both false b h g = absurd cc
-
-is_true : (b : Bool) → not b ≡ false → b ≡ true
-is_true true h = refl
-is_true false h = absurd cc
-
-pub told_by_run : (cert : Cert) (p : Point) (reach : Reach) (e line l : ℕ) → IsReach cert p reach → IsRun cert (length cert.schedule.lines)
+pub implied_by_run : (cert : Cert) (p : Point) (reach : Reach) (e line l : ℕ) → IsReach cert p reach
+    → IsRun cert (length cert.schedule.lines)
     (line - 1) e → not reach.plain ≡ false → p.l0 < line → reach.first < line
-    → line ≤ l → l ≤ e → l < reach.last → is_told cert p l ≡ true
-told_by_run cert p reach e line l is run plain after first low high last =
+    → line ≤ l → l ≤ e → l < reach.last → is_implied cert p l ≡ true
+implied_by_run cert p reach e line l is run plain after first low high last =
     let above : nat_lt p.l0 l ≡ true = grind (arith, nat_tests) in
     let lines : lines_alike cert (l - 1) ≡ true = run.alike (l - 1) (omega (arith, low)) (omega (arith, low, high, after)) in
     let even : boxes_even cert p (l - 1) ≡ true = sym (covered_even cert p reach (l - 1) is (omega (arith, first, low))
     (omega (arith, first, low, last))) in
-    and_both (nat_lt p.l0 l) _ above
-    (and_both (lines_alike cert (l - 1)) _ lines (and_both (is_plain cert p) _ (sym is.plain ∙ is_true reach.plain plain) even))
-
--- One more successor
-
-same_some : {A : Type 0} (o : Option A) (a b : A) → o ≡ Some a → o ≡ Some b → a ≡ b
-same_some o a b e f = cc
+    and_from (nat_lt p.l0 l) _ above
+    (and_from (lines_alike cert (l - 1)) _ lines (and_from (is_plain cert p) _ (sym is.plain ∙ not-false reach.plain plain) even))

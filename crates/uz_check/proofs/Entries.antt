@@ -1,19 +1,10 @@
 -- An instruction emits no entry, and one that isn't RETI no leave.
-use Rattle.std.proofs.Common.{◌≡◌, All, ℕ, ◌+◌, Bool, true, false, cond, eqb, List, [], ◌∷◌, ◌++◌, sym, subst, arith}
-use Rattle.std.specs.Prelude.{◌&&◌, ◌||◌}
-use Rattle.std.proofs.lemmas.List.Elements.{All-nil, All-cons, All-append, All-tail}
-use Rattle.avr_table.specs.declared.Instr.{Instr}
-use Rattle.uz_core.specs.declared.machine.HeldStore.{HeldStore}
-use Rattle.uz_core.specs.declared.machine.EdgeKind.{EdgeKind}
-use Rattle.uz_core.specs.declared.machine.EdgeKind.TheVariants.{Sync, Pixel, Sound, Leave}
-use Rattle.uz_core.specs.PadLine.{PadHistory}
-use Rattle.uz_core.specs.Space.{Space, history_wiring, plain_byte, after_store, is_store, space_after}
-use Rattle.uz_core.specs.Turn.{State, sync_level, address_of, edge_kinds, all_edge_kinds, edges_at, instruction_edges}
-use Rattle.uz_core.specs.Turn.{instruction_result}
-use Rattle.uz_core.specs.Effects.{effect_of}
-use Rattle.uz_core.specs.Core.{returns_from_interrupt}
-use Rattle.uz_check.specs.Claim.{InTime}
-use Rattle.uz_check.specs.Ways.{IsPlain}
+use Rattle.uz_check.proofs.Common.{◌≡◌, All, ℕ, ◌+◌, Bool, true, false, cond, eqb, List, [], ◌∷◌, ◌++◌, sym, subst, arith, ◌&&◌, ◌||◌}
+use Rattle.uz_check.proofs.Common.{All-nil, All-cons, All-append, All-tail, Instr, HeldStore, EdgeKind, PadHistory, Space, history_wiring}
+use Rattle.uz_check.proofs.Common.{plain_byte, after_store, is_store, space_after, State, sync_level, address_of, edge_kinds}
+use Rattle.uz_check.proofs.Common.{all_edge_kinds, edges_at, instruction_edges, instruction_result, effect_of, returns_from_interrupt}
+use Rattle.uz_check.proofs.Common.{InTime, IsPlain, Pixel, Sound, Leave}
+use Rattle.uz_core.specs.declared.machine.EdgeKind.TheVariants.{Sync}
 
 abbrev one : EdgeKind → List EdgeKind
 one kind = kind ∷ []

@@ -1,15 +1,9 @@
 -- An interrupt's entry, where SP is in RAM.
-use Rattle.std.proofs.Common.{◌≡◌, ℕ, ◌+◌, ◌-◌, ◌/◌, ◌%◌, ◌≤◌, false, List, [], ◌∷◌, ◌++◌, refl, ◌∙◌, ap, arith}
-use Rattle.uz_core.specs.declared.machine.HeldStore.TheVariants.{Byte}
-use Rattle.uz_core.specs.declared.machine.EdgeKind.{EdgeKind}
-use Rattle.uz_core.specs.declared.machine.EdgeKind.TheVariants.{Enter}
-use Rattle.uz_core.specs.Arithmetic.{with_bit}
-use Rattle.uz_core.specs.Core.{Core, interrupted_core}
-use Rattle.uz_core.specs.Timer.{timer_after, timer_taken}
-use Rattle.uz_core.specs.PadLine.{PadHistory}
-use Rattle.uz_core.specs.Space.{Space, history_wiring, with_plain_byte, after_byte, space_after, space_taken}
-use Rattle.uz_core.specs.Turn.{State, after_stores, all_edge_kinds, edge_kinds, edges_at, entry_stores, after_entry, entry_edges}
-use Rattle.uz_check.specs.Invariant.{pushed}
+use Rattle.uz_check.proofs.Common.{◌≡◌, ℕ, ◌+◌, ◌-◌, ◌/◌, ◌%◌, ◌≤◌, false, List, [], ◌∷◌, ◌++◌, refl, ◌∙◌, ap, arith, Byte, EdgeKind, Enter}
+use Rattle.uz_check.proofs.Common.{with_bit, Core, timer_after, timer_taken, PadHistory, Space, history_wiring, with_plain_byte, after_byte}
+use Rattle.uz_check.proofs.Common.{space_after, space_taken, State, after_stores, all_edge_kinds, edge_kinds, edges_at, entry_stores}
+use Rattle.uz_check.proofs.Common.{after_entry, entry_edges, pushed}
+use Rattle.uz_core.specs.Core.{interrupted_core}
 use Rattle.uz_check.proofs.Ram.{off_core, ram_stored, ram_unseen}
 
 abbrev pub entered_core : Core → Core

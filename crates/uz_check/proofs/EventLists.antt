@@ -1,16 +1,10 @@
 -- Events among edges, and the events of a stretch of the schedule.
-use Rattle.std.proofs.Common.{◌≡◌, ◌⊎◌, inl, inr, ℕ, zero, suc, ◌+◌, ◌<◌, ◌≤◌, Bool, true, false, cond, leb, List, [], ◌∷◌, ◌++◌, refl, sym}
-use Rattle.std.proofs.Common.{◌∙◌, ap, subst, arith}
-use Rattle.std.specs.Prelude.{Option, Some, None, filter, nat_lt}
+use Rattle.uz_check.proofs.Common.{◌≡◌, ◌⊎◌, inl, inr, ℕ, zero, suc, ◌+◌, ◌≤◌, Bool, true, false, cond, leb, List, [], ◌∷◌, ◌++◌, refl, sym}
+use Rattle.uz_check.proofs.Common.{◌∙◌, ap, subst, arith, Option, Some, None, filter, nat_lt, EventKind, Edge, edges_until, AreTimed, Shown}
+use Rattle.uz_check.proofs.Common.{event_of, listed, shown, shown_at, scheduled, edges_after, le-ltb}
+use Rattle.uz_check.proofs.RunParts.{timed_ends}
+use Rattle.std.proofs.lemmas.Bool.{lt-ltb}
 use Rattle.std.specs.List.{cons_option}
-use Rattle.std.proofs.lemmas.Bool.Decides.{leb_tells}
-use Rattle.uz_schedule.specs.declared.lines.EventKind.{EventKind}
-use Rattle.uz_core.specs.declared.machine.Edge.{Edge}
-use Rattle.uz_core.specs.Run.{edges_until}
-use Rattle.uz_console.specs.Runs.{AreTimed}
-use Rattle.uz_rules.specs.Events.{Shown, event_of, listed, shown, shown_at}
-use Rattle.uz_check.specs.Claim.{scheduled}
-use Rattle.uz_check.specs.Keeping.{edges_after}
 
 abbrev pub Among : {X : Type 0} → X → List X → Type 0
 Among x [] = ⊥
@@ -152,40 +146,35 @@ pub none_after : (limit clock from to : ℕ) (edges : List Edge) → AreTimed fr
     (edges_until limit edges) ≡ []
 none_after limit clock from to [] t before = refl
 none_after limit clock from to (e ∷ edges) t before =
-    let here : e.clock ≤ to = edge_before e.clock to edges t.1 in
-    let not_after : nat_lt clock e.clock ≡ false = by_test (leb_tells (suc clock) e.clock) here in
-    kept_after limit clock (edges_until limit edges) e (leb e.clock limit) not_after (none_after limit clock e.clock to edges t.1 before)
-  where
-    edge_before : (from to : ℕ) (edges : List Edge) → AreTimed from to edges → from ≤ to
-    edge_before from to [] t = t
-    edge_before from to (e ∷ edges) t = (let rest = edge_before e.clock to edges t.1 in let first = t.0 in omega arith)
+    let here : e.clock ≤ to = timed_ends e.clock to edges t.1 in
+    kept_after limit clock (edges_until limit edges) e (leb e.clock limit) (le-ltb clock e.clock (omega arith))
+    (none_after limit clock e.clock to edges t.1 before)
 
-    by_test : ((leb (suc clock) e.clock ≡ true) × (suc clock ≤ e.clock)) ⊎ ((leb (suc clock) e.clock ≡ false) × (e.clock < suc clock))
-        → e.clock ≤ to → nat_lt clock e.clock ≡ false
-    by_test (inl is) h = absurd (let g = is.1 in omega arith)
-    by_test (inr not_so) h = not_so.0
+-- The events at the clocks that a test takes
+
+cut_one : (e : Edge) (es : List Edge) (b : Bool) → shown (cond b (e ∷ es) es) ≡ cond b
+    (cons_option (shown_at (event_of e.kind) e.clock) (shown es)) (shown es)
+cut_one e es true = refl
+cut_one e es false = refl
+
+one_shown : (test : ℕ → Bool) (clock : ℕ) (o : Option EventKind) (rest : List Shown) (b : Bool) → test clock ≡ b
+    → filter (λ x. test x.clock) (cons_option (shown_at o clock) rest) ≡ cond b (cons_option (shown_at o clock)
+    (filter (λ x. test x.clock) rest)) (filter (λ x. test x.clock) rest)
+one_shown test clock None rest true e = refl
+one_shown test clock (Some kind) rest true e = rw e refl
+one_shown test clock (Some kind) rest false e = rw e refl
+one_shown test clock o rest b e = refl
+
+pub shown_filtered : (test : ℕ → Bool) (edges : List Edge) → shown (filter (λ e. test e.clock) edges)
+    ≡ filter (λ x. test x.clock) (shown edges)
+shown_filtered test [] = refl
+shown_filtered test (e ∷ es) =
+    cut_one e (filter (λ e. test e.clock) es) (test e.clock)
+    ∙ (ap (λ rest. cond (test e.clock) (cons_option (shown_at (event_of e.kind) e.clock) rest) rest) (shown_filtered test es)
+    ∙ sym (one_shown test e.clock (event_of e.kind) (shown es) (test e.clock) refl))
 
 abbrev events_after : ℕ → List Shown → List Shown
 events_after clock events = filter (λ x. nat_lt clock x.clock) events
-
-one_after : (clock : ℕ) (e : Edge) (edges : List Edge) (o : Option EventKind) (b : Bool) → b ≡ nat_lt clock e.clock → o ≡ event_of e.kind
-    → shown (edges_after clock edges) ≡ events_after clock (shown edges) →
-    shown (cond b (e ∷ edges_after clock edges) (edges_after clock edges)) ≡ events_after clock
-    (cons_option (shown_at o e.clock) (shown edges))
-one_after clock e edges None true test is same = ap (λ p. cons_option (shown_at p e.clock) (shown (edges_after clock edges))) (sym is)
-    ∙ same
-one_after clock e edges None false test is same = same
-one_after clock e edges (Some kind) true test is same =
-    ap (λ p. cons_option (shown_at p e.clock) (shown (edges_after clock edges))) (sym is)
-    ∙ (ap (λ xs. record { clock = e.clock; kind = kind } ∷ xs) same
-    ∙ ap (λ t. cond t (record { clock = e.clock; kind = kind } ∷ events_after clock (shown edges)) (events_after clock (shown edges))) test)
-one_after clock e edges (Some kind) false test is same =
-    same ∙ ap (λ t. cond t (record { clock = e.clock; kind = kind } ∷ events_after clock (shown edges)) (events_after clock (shown edges)))
-    test
-
-shown_after : (clock : ℕ) (edges : List Edge) → shown (edges_after clock edges) ≡ events_after clock (shown edges)
-shown_after clock [] = refl
-shown_after clock (e ∷ edges) = one_after clock e edges (event_of e.kind) (nat_lt clock e.clock) refl refl (shown_after clock edges)
 
 -- the events of a stretch are after its clock
 stretch_after : (at : ℕ → Option EventKind) (p clock n from : ℕ) → from ≤ clock → events_after from (scheduled at p clock n) ≡ scheduled at
@@ -193,23 +182,16 @@ stretch_after : (at : ℕ → Option EventKind) (p clock n from : ℕ) → from 
 stretch_after at p clock zero from before = refl
 stretch_after at p clock (suc n) from before = by_event (at (suc p)) (stretch_after at (suc p) (suc clock) n from (omega arith))
   where
-    later : nat_lt from (suc clock) ≡ true
-    later =
-        elim (leb_tells (suc from) (suc clock)) [
-          | inl is ↦ is.0
-          | inr not_so ↦ absurd (let g = not_so.1 in omega arith)
-        ]
-
     by_event : (o : Option EventKind) → events_after from (scheduled at (suc p) (suc clock) n) ≡ scheduled at (suc p) (suc clock) n →
         events_after from (listed (shown_at o (suc clock)) ++ scheduled at (suc p) (suc clock) n) ≡ listed (shown_at o (suc clock))
         ++ scheduled at (suc p) (suc clock) n
     by_event None same = same
     by_event (Some kind) same =
         ap (λ t. cond t (record { clock = suc clock; kind = kind } ∷ events_after from (scheduled at (suc p) (suc clock) n))
-        (events_after from (scheduled at (suc p) (suc clock) n))) later
+        (events_after from (scheduled at (suc p) (suc clock) n))) (lt-ltb from (suc clock) (omega (arith, before)))
         ∙ ap (λ xs. record { clock = suc clock; kind = kind } ∷ xs) same
 
 pub stretch_is_after : (at : ℕ → Option EventKind) (p clock n : ℕ) (edges : List Edge) → shown edges ≡ scheduled at p clock n
     → shown (edges_after clock edges) ≡ scheduled at p clock n
 stretch_is_after at p clock n edges same =
-    shown_after clock edges ∙ (ap (events_after clock) same ∙ stretch_after at p clock n clock (omega arith))
+    shown_filtered (nat_lt clock) edges ∙ (ap (events_after clock) same ∙ stretch_after at p clock n clock (omega arith))

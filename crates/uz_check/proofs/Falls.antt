@@ -1,41 +1,25 @@
 -- The falls of a history (newest first).
-use Rattle.std.proofs.Common.{◌≡◌, ◌≢◌, inl, inr, ℕ, Bool, true, false, not, cond, List, [], ◌∷◌, ◌++◌, refl, sym, ◌∙◌, ap, subst, arith}
-use Rattle.std.specs.Prelude.{⊤, ◌==◌, ◌&&◌, Some, unwrap_or}
-use Rattle.std.proofs.lemmas.Bool.Decides.{nat_tests}
-use Rattle.uz_core.specs.declared.machine.Edge.{Edge}
-use Rattle.uz_core.specs.declared.machine.EdgeKind.{EdgeKind}
-use Rattle.uz_core.specs.declared.machine.EdgeKind.TheVariants.{Sync, Pixel, Sound, Enter, Leave}
-use Rattle.uz_scan.specs.Lines.{ends_line, is_fall, is_high, level_brought, line_start}
+use Rattle.uz_check.proofs.Common.{same_Some, and_parts, not-true, both_ways, ◌≡◌, ◌≢◌, inl, inr, ℕ, Bool, true, false, not, cond, List, []}
+use Rattle.uz_check.proofs.Common.{◌∷◌, ◌++◌, refl, sym, ◌∙◌, ap, subst, arith, ⊤, ◌==◌, ◌&&◌, Some, unwrap_or, nat_tests, Edge, EdgeKind}
+use Rattle.uz_check.proofs.Common.{Enter, is_high, Pixel, Sound, Leave}
+use Rattle.uz_core.specs.declared.machine.EdgeKind.TheVariants.{Sync}
+use Rattle.uz_scan.specs.Lines.{ends_line, is_fall, level_brought, line_start}
 use Rattle.uz_check.proofs.Changes.{Changes, IsChange}
 use Rattle.uz_check.proofs.EventLists.{Among}
-
-differ : (b : Bool) → b ≡ true → b ≡ false → ⊥
-differ b is is_not = absurd (cc (is, is_not))
-
-both_true : (a b : Bool) → (a && b) ≡ true → (a ≡ true) × (b ≡ true)
-both_true true b h = (refl, h)
-both_true false b h = absurd (differ false h refl)
 
 low_is_zero : (value : ℕ) → not (not (value == 0)) ≡ true → value ≡ 0
 low_is_zero value h = grind (arith, nat_tests)
 
-not_not : (b : Bool) → not b ≡ true → b ≡ false
-not_not true h = sym h
-not_not false h = refl
-
 -- what a fall is
 kind_falls : (kind : EdgeKind) (high : Bool) → (high && not (unwrap_or (level_brought kind) high)) ≡ true → (high ≡ true) × (kind ≡ Sync 0)
-kind_falls (Sync value) high h = (let b = both_true high (not (not (value == 0))) h in (b.0, ap Sync (low_is_zero value b.1)))
-kind_falls (Pixel value) high h = (let b = both_true high (not high) h in absurd (differ high b.0 (not_not high b.1)))
-kind_falls (Sound value) high h = (let b = both_true high (not high) h in absurd (differ high b.0 (not_not high b.1)))
-kind_falls (Enter count) high h = (let b = both_true high (not high) h in absurd (differ high b.0 (not_not high b.1)))
-kind_falls Leave high h = (let b = both_true high (not high) h in absurd (differ high b.0 (not_not high b.1)))
+kind_falls (Sync value) high h = (let b = and_parts high (not (not (value == 0))) h in (b.0, ap Sync (low_is_zero value b.1)))
+kind_falls kind high h = (let b = and_parts high (not high) h in absurd (both_ways high (not-true high b.1) b.0))
 
 pub fall_is : (e : Edge) (before : List Edge) → is_fall e before ≡ true → (is_high before ≡ true) × (e.kind ≡ Sync 0)
 fall_is e before h = kind_falls e.kind (is_high before) h
 
 pub ending_falls : (e : Edge) (before : List Edge) → ends_line e before ≡ true → is_fall e before ≡ true
-ending_falls e before h = (both_true (is_fall e before) _ h).0
+ending_falls e before h = (and_parts (is_fall e before) _ h).0
 
 -- sync 0 is a fall, where sync edges are changes
 zero_is_change : (high : Bool) → IsChange (Sync 0) high → (high && not (unwrap_or (level_brought (Sync 0)) high)) ≡ true
@@ -63,9 +47,6 @@ pub record Began (edges : List Edge) (from : ℕ) : Type 0 where
   pub clock : fall.clock ≡ from
   pub none : NoFalls since (fall ∷ earlier)
 
-same_some : (a b : ℕ) → Some a ≡ Some b → a ≡ b
-same_some a b h = ap (λ o. unwrap_or o 0) h
-
 began_here : (e : Edge) (before : List Edge) (from : ℕ) (b : Bool) → is_fall e before ≡ b → cond b (Some e.clock) (line_start before) ≡ Some
     from → (line_start before ≡ Some from → Began before from) → Began (e ∷ before) from
 began_here e before from true is h more = record {
@@ -74,7 +55,7 @@ began_here e before from true is h more = record {
   earlier = before;
   cut = refl;
   falls = is;
-  clock = same_some e.clock from h;
+  clock = same_Some e.clock from h;
   none = tt;
 }
 began_here e before from false is h more =
@@ -97,7 +78,7 @@ began (e ∷ before) from h = began_here e before from (is_fall e before) refl h
 pub no_zero : (later before : List Edge) (e : Edge) → Changes (later ++ before) → NoFalls later before → Among e later → e.kind ≡ Sync 0 → ⊥
 no_zero [] before e changes none here is = absurd here
 no_zero (x ∷ later) before e changes none (inl same) is =
-    differ (is_fall x (later ++ before)) (zero_falls x (later ++ before) changes (ap (λ (y : Edge). y.kind) same ∙ is)) none.0
+    both_ways (is_fall x (later ++ before)) none.0 (zero_falls x (later ++ before) changes (ap (λ (y : Edge). y.kind) same ∙ is))
 no_zero (x ∷ later) before e changes none (inr here) is = no_zero later before e changes.1 none.1 here is
 
 -- where the level has come to be high there was a rise
@@ -123,5 +104,5 @@ rose_by e later high (Enter count) is h more = further e later (more h)
 rose_by e later high Leave is h more = further e later (more h)
 
 pub rose_since : (later before : List Edge) → is_high before ≡ false → is_high (later ++ before) ≡ true → Rise later
-rose_since [] before low high = absurd (differ (is_high before) high low)
+rose_since [] before low high = absurd (both_ways (is_high before) low high)
 rose_since (e ∷ later) before low high = rose_by e later (is_high (later ++ before)) e.kind refl high (rose_since later before low)

@@ -1,22 +1,9 @@
 -- What the induction takes from the limits of a certificate.
-use Rattle.std.specs.Prelude.{◌≡◌, ◌⊎◌, ⊤, All, Contains, IsTrue, ◌+◌, ◌-◌, ◌<◌, ◌≤◌, true, false, List, [], ◌∷◌, length, map, Some}
-use Rattle.uz_schedule.specs.Ends.{Ends}
-use Rattle.uz_schedule.specs.Limits.{ScheduleFits}
-use Rattle.uz_schedule.specs.Schedule.{length_of, level_at}
-use Rattle.uz_schedule.specs.declared.kinds.Kind.TheVariants.{Main, Handler, Alone}
-use Rattle.uz_schedule.specs.declared.header.Cell.{Cell}
-use Rattle.uz_schedule.specs.declared.states.Rest.{Rest}
-use Rattle.uz_schedule.specs.declared.states.Point.{Point}
-use Rattle.uz_schedule.specs.declared.states.Instance.{Instance}
-use Rattle.uz_schedule.specs.declared.certificate.Cert.{Cert}
+use Rattle.uz_check.proofs.Common.{◌≡◌, ◌⊎◌, ⊤, All, Contains, ◌+◌, ◌-◌, ◌<◌, ◌≤◌, true, false, List, [], ◌∷◌, length, map, Some, Ends}
+use Rattle.uz_check.proofs.Common.{ScheduleFits, length_of, level_at, Main, Handler, Alone, Cell, Rest, Point, Instance, Cert, Kind, Head}
+use Rattle.uz_check.proofs.Common.{tracked, depth_limit, is_main, all_flags, is_old, depth_of, position_of}
+use Rattle.std.proofs.Common.{IsTrue}
 use Rattle.uz_schedule.specs.Limits.{rises}
-use Rattle.uz_schedule.specs.declared.kinds.Kind.{Kind}
-use Rattle.uz_schedule.specs.declared.header.Head.{Head}
-use Rattle.uz_schedule.specs.Tracked.{tracked}
-use Rattle.uz_transfer.specs.Kinds.{depth_limit}
-use Rattle.uz_transfer.specs.Kinds.{is_main}
-use Rattle.uz_transfer.specs.Memory.{all_flags, is_old, depth_of}
-use Rattle.uz_rules.specs.EdgeRule.{position_of}
 
 -- one range a cell, each within the cell's own
 abbrev pub SpansFit : List Cell → List Ends → Type 0

@@ -1,41 +1,16 @@
 -- What the limits of a certificate give.
-use Rattle.std.proofs.Common.{◌≡◌, ◌⊎◌, inl, inr, ℕ, zero, suc, ◌+◌, ◌<◌, ◌≤◌, Bool, true, false, cond, leb, ltb, List, [], ◌∷◌, length}
-use Rattle.std.proofs.Common.{refl, sym, ◌∙◌, ap, subst, arith}
-use Rattle.std.specs.Prelude.{Option, Some, None, ◌&&◌, nat_eq, nat_le, slice_index, slice_get, ℤ, pos, negsuc, ◌+ℤ◌, ◌*ℤ◌}
+use Rattle.uz_check.proofs.Common.{response_clocks, Four, Five, Response, and_parts, ◌≡◌, inl, inr, ℕ, zero, suc, ◌+◌, ◌<◌, ◌≤◌, Bool, true}
+use Rattle.uz_check.proofs.Common.{false, cond, leb, ltb, List, [], ◌∷◌, length, refl, sym, ◌∙◌, ap, subst, arith, Option, Some, None, ◌&&◌}
+use Rattle.uz_check.proofs.Common.{nat_eq, nat_le, slice_index, slice_get, ℤ, pos, negsuc, ◌+ℤ◌, ◌*ℤ◌, leb-true, eqb-true, length-map}
+use Rattle.uz_check.proofs.Common.{All-get_or, get_or_from_slice_get, slice_get_within, ScheduleFits, Main, Head, Schedule, Point, Instance}
+use Rattle.uz_check.proofs.Common.{Cert, length_within, length_of, start_of, level_at, depth_limit, CellsHold, depth_of, val_of}
+use Rattle.uz_check.proofs.Common.{clock_below, clock_at, is_in_box, instance_of, instance_at_clock, instance_in, instance_at, Core}
+use Rattle.uz_check.proofs.Common.{register, IsByte, IsCore, ends, IsWithin, span_at, all_below, cells_inside, AllByRecursion, eqb_tells}
+use Rattle.uz_check.proofs.Common.{Ends, Kind}
+use Rattle.std.proofs.lemmas.Bool.{cases_lt, ltb-true}
 use Rattle.std.specs.Option.{option_and_then}
-use Rattle.std.proofs.lemmas.Bool.{leb-true, eqb-true}
-use Rattle.std.proofs.lemmas.List.{length-map}
-use Rattle.std.proofs.lemmas.List.Elements.{All-get_or}
-use Rattle.std.proofs.lemmas.Option.{get_or_from_slice_get, slice_get_within}
-use Rattle.uz_schedule.specs.Limits.{ScheduleFits}
-use Rattle.uz_schedule.specs.declared.kinds.Kind.TheVariants.{Main}
-use Rattle.uz_schedule.specs.declared.header.Head.{Head}
-use Rattle.uz_schedule.specs.declared.lines.Schedule.{Schedule}
-use Rattle.uz_schedule.specs.declared.states.Point.{Point}
-use Rattle.uz_schedule.specs.declared.states.Instance.{Instance}
-use Rattle.uz_schedule.specs.declared.certificate.Cert.{Cert}
-use Rattle.uz_schedule.proofs.Starts.{length_within}
-use Rattle.uz_schedule.specs.Schedule.{length_of, start_of, level_at}
-use Rattle.uz_transfer.specs.Kinds.{depth_limit}
-use Rattle.uz_rules.specs.MemoryMeets.{CellsHold}
-use Rattle.uz_transfer.specs.Memory.{depth_of}
-use Rattle.uz_schedule.specs.Instances.{val_of, clock_below, clock_at, is_in_box, instance_of, instance_at_clock, instance_in, instance_at}
 use Rattle.uz_check.proofs.Fits.{HeadLimits, IsPlaced, PointLimits, Limits}
-use Rattle.uz_core.specs.Core.{Core, register}
-use Rattle.uz_core.specs.CoreRange.{IsByte, IsCore}
-use Rattle.uz_range.specs.Answers.{ends}
-use Rattle.uz_range.specs.Containment.{IsWithin}
-use Rattle.uz_transfer.specs.Values.{span_at}
 use Rattle.uz_transfer.specs.Refusals.{range_inside}
-use Rattle.uz_rules.specs.Inside.{all_below, cells_inside}
-use Rattle.std.specs.List.{AllByRecursion}
-use Rattle.std.proofs.lemmas.Bool.Decides.{eqb_tells, leb_tells}
-use Rattle.uz_schedule.specs.Ends.{Ends}
-use Rattle.uz_schedule.specs.declared.kinds.Kind.{Kind}
-
-pub and_true : (a b : Bool) → (a && b) ≡ true → (a ≡ true) × (b ≡ true)
-and_true true b e = (refl, e)
-and_true false b e = absurd cc
 
 -- a line is longer than an entry and the latest latency
 pub line_long : (s : Schedule) (l : ℕ) → ScheduleFits s → l < length s.lines → 9 ≤ length_of s l
@@ -43,6 +18,10 @@ line_long s l fits h = omega (arith, (length_within s fits l).0)
 
 pub line_short : (s : Schedule) (l : ℕ) → ScheduleFits s → l < length s.lines → length_of s l < 65536
 line_short s l fits h = omega (arith, (length_within s fits l).1)
+
+pub response_few : (r : Response) → response_clocks r ≤ 5
+response_few Four = omega arith
+response_few Five = omega arith
 
 pub room_below : (head : Head) → HeadLimits head → head.lo + head.main + 2 ≤ suc head.hi
 room_below head h = omega (arith, h.order, h.room)
@@ -55,9 +34,6 @@ opened f (Some a) b e = (a, refl, e)
 pub tested : {A : Type 0} (t : Bool) (o : Option A) (a : A) → cond t o None ≡ Some a → (t ≡ true) × (o ≡ Some a)
 tested true o a e = (refl, e)
 tested false o a e = absurd cc
-
-pub ltb-true : (k n : ℕ) → ltb k n ≡ true → k < n
-ltb-true k n e = leb-true (suc k) n e
 
 in_line : (length : ℕ) (z : ℤ) (k : ℕ) → clock_below length z ≡ Some k → k < length
 in_line length (pos n) k e =
@@ -94,8 +70,8 @@ in_point : (cert : Cert) (p : Point) (l c : ℕ) (inst : Instance) → PointLimi
     → IsPlaced cert inst
 in_point cert p l c inst h e =
     let of = of_point cert p l c inst e in
-    let lines = and_true (leb p.l0 l && leb l p.l1) (leb p.c0 c && leb c p.c1) of.box in
-    let below : l ≤ p.l1 = leb-true l p.l1 (and_true (leb p.l0 l) (leb l p.l1) lines.0).1 in
+    let lines = and_parts (leb p.l0 l && leb l p.l1) (leb p.c0 c && leb c p.c1) of.box in
+    let below : l ≤ p.l1 = leb-true l p.l1 (and_parts (leb p.l0 l) (leb l p.l1) lines.0).1 in
     subst (IsPlaced cert) of.is (record {
       pc = h.pc;
       line = omega (arith, below, h.lines);
@@ -123,7 +99,7 @@ pub below_tells : (n : ℕ) (test : ℕ → Bool) → all_below n test ≡ true 
 unfolding all_below
 below_tells zero test e k h = absurd (omega (arith, h))
 below_tells (suc n) test e k h =
-    let both = and_true (all_below n test) (test n) e in
+    let both = and_parts (all_below n test) (test n) e in
     elim (eqb_tells k n) [
       | inl t ↦ ap test t.1 ∙ both.1
       | inr t ↦ below_tells n test both.0 k (omega (arith, t.1, h))
@@ -131,13 +107,10 @@ below_tells (suc n) test e k h =
 
 pub within_tells : (a b : Ends) (x : ℕ) → range_inside a b ≡ true → IsWithin x a → IsWithin x b
 within_tells a b x e h =
-    let both = and_true (nat_le b.lo a.lo) (nat_le a.hi b.hi) e in
+    let both = and_parts (nat_le b.lo a.lo) (nat_le a.hi b.hi) e in
     let low : b.lo ≤ a.lo = leb-true b.lo a.lo both.0 in
     let high : a.hi ≤ b.hi = leb-true a.hi b.hi both.1 in
     record { above = omega (arith, low, h.above); below = omega (arith, high, h.below) }
-
-lt_or : (j n : ℕ) → (j < n) ⊎ (n ≤ j)
-lt_or j n = elim (leb_tells (suc j) n) [ inl t ↦ inl t.1 | inr t ↦ inr (omega (arith, t.1)) ]
 
 past_end : (spans : List Ends) (j : ℕ) → length spans ≤ j → span_at spans j ≡ ends 0 255
 past_end [] j h = refl
@@ -153,9 +126,9 @@ byte_at (b ∷ bytes) (suc at) h = byte_at bytes at h.1
 pub cells_widen : (head : Head) (kind : Kind) (a b : List Ends) (bytes : List ℕ) → AllByRecursion IsByte bytes → cells_inside a b ≡ true
     → CellsHold head kind a bytes → CellsHold head kind b bytes
 cells_widen head kind a b bytes fine e h at j is =
-    let both = and_true (nat_eq (length a) (length b)) _ e in
+    let both = and_parts (nat_eq (length a) (length b)) _ e in
     let same : length a ≡ length b = eqb-true (length a) (length b) both.0 in
-    elim (lt_or j (length b)) [
+    elim (cases_lt j (length b)) [
       | inl low ↦ within_tells (span_at a j) (span_at b j) (slice_index bytes at)
           (below_tells (length a) (λ j. range_inside (span_at a j) (span_at b j)) both.1 j (omega (arith, low, same))) (h at j is)
       | inr past ↦ subst (IsWithin (slice_index bytes at)) (sym (past_end b j past))

@@ -1,30 +1,19 @@
 -- The rules of rests and of the entry in a frame of scanlines.
-use Rattle.std.proofs.Common.{◌≡◌, inl, inr, Contains, ℕ, zero, suc, ◌+◌, ◌-◌, ◌<◌, ◌≤◌, Bool, true, false, cond, leb, Option, Some, None}
-use Rattle.std.proofs.Common.{length, refl, sym, ◌∙◌, ap, subst, arith}
-use Rattle.std.specs.Prelude.{◌↔◌, ◌&&◌, ◌||◌, unwrap_or, option_and_then, slice_get}
-use Rattle.std.proofs.lemmas.Bool.{leb-true}
-use Rattle.std.proofs.lemmas.Bool.Decides.{eqb_tells}
-use Rattle.uz_schedule.specs.Instances.{instance_of, instance_in, instance_at, is_in_box, entry_instance, rest_instance, entry_instance_at}
-use Rattle.uz_schedule.specs.Instances.{handler_entry, clock_at, instance_at_clock}
-use Rattle.uz_schedule.specs.Limits.{ScheduleFits}
-use Rattle.uz_schedule.specs.Schedule.{length_of, start_of, next_line, event_at, level_at, response_clocks}
-use Rattle.uz_schedule.specs.WellFormed.{RestFits, WellFormed}
-use Rattle.uz_schedule.specs.declared.certificate.Cert.{Cert}
-use Rattle.uz_schedule.specs.declared.lines.Schedule.{Schedule}
-use Rattle.uz_schedule.specs.declared.states.Instance.{Instance}
-use Rattle.uz_schedule.specs.declared.states.Point.{Point}
-use Rattle.uz_schedule.specs.declared.states.Rest.{Rest}
-use Rattle.uz_rules.specs.Inside.{inside, same_place}
-use Rattle.uz_rules.proofs.InsideMeets.{place_tells}
-use Rattle.uz_rules.specs.Successors.{lies_at, any_from, lies_in_point, LiesInPoint}
-use Rattle.uz_check.specs.FrameRules.{RestPasses, EntryPasses}
-use Rattle.uz_check.specs.ByPosition.{AreScanlines, position, event_by_position, level_by_position, LiesByPosition}
+use Rattle.uz_check.proofs.Common.{or_right, or_left, and_parts, ◌≡◌, inl, inr, Contains, ℕ, zero, suc, ◌+◌, ◌-◌, ◌<◌, ◌≤◌, Bool, true}
+use Rattle.uz_check.proofs.Common.{false, cond, leb, Option, Some, None, length, sym, ◌∙◌, ap, subst, arith, ◌↔◌, ◌&&◌, unwrap_or}
+use Rattle.uz_check.proofs.Common.{option_and_then, slice_get, leb-true, eqb_tells, instance_of, instance_in, instance_at, is_in_box}
+use Rattle.uz_check.proofs.Common.{entry_instance, rest_instance, clock_at, instance_at_clock, ScheduleFits, length_of, start_of, next_line}
+use Rattle.uz_check.proofs.Common.{event_at, level_at, response_clocks, RestFits, WellFormed, Cert, Schedule, Instance, Point, Rest, inside}
+use Rattle.uz_check.proofs.Common.{same_place, same_place_tells as place_tells, lies_at, any_from, lies_in_point, LiesInPoint, RestPasses}
+use Rattle.uz_check.proofs.Common.{EntryPasses, AreScanlines, position, event_by_position, level_by_position, LiesByPosition}
+use Rattle.uz_check.proofs.Fitting.{opened, tested}
+use Rattle.uz_schedule.specs.Instances.{entry_instance_at, handler_entry}
 use Rattle.uz_check.specs.ByPosition.{entry_by_position, rest_by_position, RestByPosition, EntryByPosition}
-use Rattle.uz_check.proofs.Positions.{line_clocks, place_is, event_is}
-use Rattle.uz_check.proofs.Instances.{level_there, instance_is}
+use Rattle.uz_check.proofs.Positions.{line_clocks, place_is, event_is, level_there, instance_is}
 
 -- the event at a clock of a line
-event_there : (s : Schedule) (l k : ℕ) → ScheduleFits s → AreScanlines s → event_at s (start_of s l + k) ≡ event_by_position s (position l k)
+event_there : (s : Schedule) (l k : ℕ) → ScheduleFits s → AreScanlines s → event_at s (start_of s l + k)
+    ≡ event_by_position s (position l k)
 event_there s l k fits h = ap (event_at s) (place_is s l k h) ∙ event_is s (position l k) fits h
 
 -- and some clocks after it
@@ -34,35 +23,15 @@ event_past s l k c fits h = ap (λ n. event_at s (n + c)) (place_is s l k h) ∙
 
 -- Lies in
 
-pub and_true : (a b : Bool) → (a && b) ≡ true → (a ≡ true) × (b ≡ true)
-and_true true b e = (refl, e)
-and_true false b e = absurd cc
-
-pub or_true : (a b : Bool) → b ≡ true → (a || b) ≡ true
-or_true true b e = refl
-or_true false b e = e
-
-pub or_first : (a b : Bool) → a ≡ true → (a || b) ≡ true
-or_first a b e = rw e refl
-
 -- one of the numbers from k on for which a test holds
 any_told : (test : ℕ → Bool) (k n c : ℕ) → k ≤ c → c < k + n → test c ≡ true → any_from test k n ≡ true
 unfolding any_from
 any_told test k zero c low high e = absurd (omega (arith, low, high))
 any_told test k (suc n) c low high e =
     elim (eqb_tells k c) [
-      | inl t ↦ or_first (test k) (any_from test (suc k) n) (ap test t.1 ∙ e)
-      | inr t ↦ or_true (test k) (any_from test (suc k) n) (any_told test (suc k) n c (omega (arith, low, t.1)) (omega (arith, high)) e)
+      | inl t ↦ or_left (test k) (any_from test (suc k) n) (ap test t.1 ∙ e)
+      | inr t ↦ or_right (test k) (any_from test (suc k) n) (any_told test (suc k) n c (omega (arith, low, t.1)) (omega (arith, high)) e)
     ]
-
-pub opened : {A B : Type 0} (f : A → Option B) (o : Option A) (b : B) → option_and_then f o ≡ Some b → (a : A) × (o ≡ Some a)
-    × (f a ≡ Some b)
-opened f None b e = absurd cc
-opened f (Some a) b e = (a, refl, e)
-
-pub tested : {A : Type 0} (t : Bool) (o : Option A) (a : A) → cond t o None ≡ Some a → t ≡ true
-tested true o a e = refl
-tested false o a e = absurd cc
 
 -- an instance of a point is at its line, and its count one of the box's
 record InBox (p : Point) (l c : ℕ) (inst : Instance) : Type 0 where
@@ -73,7 +42,7 @@ record InBox (p : Point) (l c : ℕ) (inst : Instance) : Type 0 where
 in_box : (s : Schedule) (p : Point) (l c : ℕ) (inst : Instance) → instance_in s p l c ≡ Some inst → InBox p l c inst
 in_box s p l c inst e =
     let box = tested (is_in_box p l c) (option_and_then (instance_at_clock s p l c) (clock_at s p l c)) inst e in
-    let counts = and_true (leb p.c0 c) (leb c p.c1) (and_true (leb p.l0 l && leb l p.l1) (leb p.c0 c && leb c p.c1) box).1 in
+    let counts = and_parts (leb p.c0 c) (leb c p.c1) (and_parts (leb p.l0 l && leb l p.l1) (leb p.c0 c && leb c p.c1) box.0).1 in
     record {
       low = leb-true p.c0 c counts.0;
       high = leb-true c p.c1 counts.1;
@@ -90,7 +59,8 @@ in_box s p l c inst e =
     at_line false o e = absurd cc
 
 -- the test holds where there is such an instance
-lies_told : (cert : Cert) (id c : ℕ) (r b : Instance) → instance_at cert id r.line c ≡ Some b → inside r b ≡ true → lies_in_point cert id r ≡ true
+lies_told : (cert : Cert) (id c : ℕ) (r b : Instance) → instance_at cert id r.line c ≡ Some b → inside r b ≡ true → lies_in_point cert id r
+    ≡ true
 lies_told cert id c r b is within =
     let found = opened (λ p. instance_in cert.schedule p r.line c) (slice_get cert.points id) b is in
     let p = found.0 in
@@ -121,7 +91,7 @@ lies_is laws cert id r fits h = (forth, back)
         let is : instance_at cert id told.line told.count ≡ Some b = instance_is cert id told.line told.count fits h ∙ told.is in
         let found = opened (λ p. instance_in cert.schedule p told.line told.count) (slice_get cert.points id) b is in
         let box = in_box cert.schedule found.0 told.line told.count b found.2 in
-        let place = place_tells r b (and_true (same_place r b) _ told.inside).0 in
+        let place = place_tells r b (and_parts (same_place r b) _ told.inside).0 in
         let line : told.line ≡ r.line = box.line ∙ sym place.line in
         lies_told cert id told.count r b (subst (λ l. instance_at cert id l told.count ≡ Some b) line is) told.inside
 

@@ -1,41 +1,25 @@
 -- The tests of a rest and of the entry hold exactly where their rules do.
-use Rattle.std.proofs.Common.{◌≡◌, inl, inr, All, Contains, ℕ, zero, suc, ◌+◌, ◌<◌, ◌≤◌, Bool, true, false, eqb, leb, ltb, List, [], ◌∷◌}
-use Rattle.std.proofs.Common.{length, refl, sym, ◌∙◌, ap, arith}
-use Rattle.std.specs.Prelude.{Option, Some, None, ◌||◌}
-use Rattle.std.proofs.lemmas.Bool.{le-leb, leb-true}
-use Rattle.std.proofs.lemmas.Bool.Decides.{nat_tests, eqb_tells, leb_tells}
-use Rattle.std.proofs.lemmas.List.Elements.{All-tail}
-use Rattle.uz_schedule.proofs.Starts.{length_within, clocks_within, event_of_place}
-use Rattle.uz_schedule.specs.Limits.{ScheduleFits}
-use Rattle.uz_schedule.specs.Schedule.{length_of, start_of, next_line, event_in, event_in_kind, events_of, event_at, response_clocks}
-use Rattle.uz_schedule.specs.declared.kinds.Kind.{Kind}
-use Rattle.uz_schedule.specs.declared.kinds.Kind.TheVariants.{Main, Handler, Alone}
-use Rattle.uz_schedule.specs.declared.kinds.Response.{Response}
-use Rattle.uz_schedule.specs.declared.kinds.Response.TheVariants.{Four, Five}
-use Rattle.uz_schedule.specs.declared.lines.Event.{Event}
-use Rattle.uz_schedule.specs.declared.lines.EventKind.{EventKind}
-use Rattle.uz_schedule.specs.declared.lines.EventKind.TheVariants.{Sync, Pixel, Sound, Leave}
-use Rattle.uz_schedule.specs.declared.lines.Schedule.{Schedule}
-use Rattle.uz_schedule.specs.declared.states.Rest.{Rest}
-use Rattle.uz_schedule.specs.declared.certificate.Cert.{Cert}
-use Rattle.uz_check.specs.FrameRules.{RestPasses, EntryPasses}
-use Rattle.uz_check.specs.FrameTests.{none_after, none_until, none_after_in, none_until_in, is_leave, leaves_at, is_quiet_rest, enters_at}
-use Rattle.uz_check.specs.FrameTests.{enters_always, rest_test, needs_no_rest, entry_test}
-use Rattle.uz_check.proofs.SteadyTold.{and_true}
+use Rattle.uz_check.proofs.Common.{and_parts, ◌≡◌, inl, inr, All, Contains, ℕ, zero, suc, ◌+◌, ◌<◌, ◌≤◌, Bool, true, false, eqb, leb, ltb}
+use Rattle.uz_check.proofs.Common.{List, [], ◌∷◌, length, refl, sym, ◌∙◌, ap, arith, Option, Some, None, ◌||◌, le-leb, leb-true, nat_tests}
+use Rattle.uz_check.proofs.Common.{eqb_tells, leb_tells, All-tail, length_within, clocks_within, event_of_place, ScheduleFits, length_of}
+use Rattle.uz_check.proofs.Common.{start_of, next_line, event_in, event_in_kind, events_of, event_at, response_clocks, Kind, Main, Handler}
+use Rattle.uz_check.proofs.Common.{Alone, Event, EventKind, Rest, Cert, RestPasses, EntryPasses, none_after, none_until}
+use Rattle.uz_check.proofs.Fitting.{response_few}
+use Rattle.uz_check.proofs.LineEvents.{next_inside}
+use Rattle.uz_schedule.specs.declared.lines.EventKind.TheVariants.{Leave}
+use Rattle.uz_check.specs.FrameTests.{none_after_in, none_until_in, is_leave, leaves_at, is_quiet_rest, enters_at, enters_always, rest_test}
+use Rattle.uz_check.specs.FrameTests.{needs_no_rest, entry_test}
 
 -- Events
 
 leave_tells : (o : Option EventKind) → is_leave o ≡ true → o ≡ Some Leave
-leave_tells None e = absurd cc
-leave_tells (Some (Sync level)) e = absurd cc
-leave_tells (Some Pixel) e = absurd cc
-leave_tells (Some Sound) e = absurd cc
 leave_tells (Some Leave) e = refl
+leave_tells o e = absurd cc
 
 after_tells : (clock : ℕ) (events : List Event) → none_after clock events ≡ true → (k : ℕ) → clock < k → event_in events k ≡ None
 after_tells clock [] e k h = refl
 after_tells clock (first ∷ later) e k h =
-    let both = and_true (leb first.clock clock) (none_after clock later) e in
+    let both = and_parts (leb first.clock clock) (none_after clock later) e in
     let low = leb-true first.clock clock both.0 in
     let other : eqb first.clock k ≡ false = grind (arith, nat_tests) in
     rw other (after_tells clock later both.1 k h)
@@ -43,7 +27,7 @@ after_tells clock (first ∷ later) e k h =
 until_tells : (clock : ℕ) (events : List Event) → none_until clock events ≡ true → (k : ℕ) → k ≤ clock → event_in events k ≡ None
 until_tells clock [] e k h = refl
 until_tells clock (first ∷ later) e k h =
-    let both = and_true (ltb clock first.clock) (none_until clock later) e in
+    let both = and_parts (ltb clock first.clock) (none_until clock later) e in
     let high = leb-true (suc clock) first.clock both.0 in
     let other : eqb first.clock k ≡ false = grind (arith, nat_tests) in
     rw other (until_tells clock later both.1 k h)
@@ -101,17 +85,6 @@ until_in_told : (clock : ℕ) (o : Option (List Event)) → ((k : ℕ) → k ≤
 until_in_told clock None h = refl
 until_in_told clock (Some events) h = until_told clock events h
 
-next_there : (s : Schedule) (l : ℕ) → l < length s.lines → next_line s l < length s.lines
-next_there s l h =
-    elim (eqb_tells (suc l) (length s.lines)) [
-      | inl t ↦ rw t.0 (omega (arith, h))
-      | inr t ↦ rw t.0 (omega (arith, h, t.1))
-    ]
-
-response_few : (r : Response) → response_clocks r ≤ 5
-response_few Four = omega arith
-response_few Five = omega arith
-
 -- A rest
 
 quiet_tells : (cert : Cert) (rest : Rest) → ScheduleFits cert.schedule → rest.line < length cert.schedule.lines → is_quiet_rest cert
@@ -124,15 +97,15 @@ quiet_tells : (cert : Cert) (rest : Rest) → ScheduleFits cert.schedule → res
     (start_of cert.schedule (next_line cert.schedule rest.line) + k) ≡ None)
 quiet_tells cert rest fits line e =
     let s = cert.schedule in
-    let leave = and_true (leaves_at s rest.line rest.clock) _ e in
-    let stands = and_true (ltb rest.clock (length_of s rest.line)) _ leave.0 in
-    let both = and_true (none_after_in rest.clock (events_of s rest.line)) _ leave.1 in
+    let leave = and_parts (leaves_at s rest.line rest.clock) _ e in
+    let stands = and_parts (ltb rest.clock (length_of s rest.line)) _ leave.0 in
+    let both = and_parts (none_after_in rest.clock (events_of s rest.line)) _ leave.1 in
     let few = response_few cert.head.irq in
     let room = (length_within s fits (next_line s rest.line)).0 in (
       leb-true (suc rest.clock) (length_of s rest.line) stands.0,
       leave_tells _ stands.1,
       λ k low high. event_of_place s rest.line k line high ∙ after_in_tells rest.clock (events_of s rest.line) both.0 k low,
-      λ k low. event_of_place s (next_line s rest.line) k (next_there s rest.line line) (omega (arith, low, few, room)) ∙ until_in_tells
+      λ k low. event_of_place s (next_line s rest.line) k (next_inside s rest.line line) (omega (arith, low, few, room)) ∙ until_in_tells
           (response_clocks cert.head.irq + 3) (events_of s (next_line s rest.line)) both.1 k low,
     )
 
@@ -148,31 +121,31 @@ quiet_told cert rest fits line h =
     (λ events is. clocks_within s fits rest.line events line is)
     (λ k low high. sym (event_of_place s rest.line k line high) ∙ h.quiet k low high) in
     let until = until_in_told (response_clocks cert.head.irq + 3) (events_of s (next_line s rest.line))
-    (λ k low. sym (event_of_place s (next_line s rest.line) k (next_there s rest.line line) (omega (arith, low, few, room)))
+    (λ k low. sym (event_of_place s (next_line s rest.line) k (next_inside s rest.line line) (omega (arith, low, few, room)))
     ∙ h.quiet_next k
     low) in
     rw (here, leave, after, until) refl
 
 enters_tells : (cert : Cert) (rest : Rest) → enters_always cert rest ≡ true → (c : ℕ) → c ≤ 3 → enters_at cert rest c ≡ true
-enters_tells cert rest e zero few = (and_true (enters_at cert rest 0) _ e).0
+enters_tells cert rest e zero few = (and_parts (enters_at cert rest 0) _ e).0
 enters_tells cert rest e (suc zero) few =
-    let rest1 = (and_true (enters_at cert rest 0) _ e).1 in
-    (and_true (enters_at cert rest 1) _ rest1).0
+    let rest1 = (and_parts (enters_at cert rest 0) _ e).1 in
+    (and_parts (enters_at cert rest 1) _ rest1).0
 enters_tells cert rest e (suc (suc zero)) few =
-    let rest1 = (and_true (enters_at cert rest 0) _ e).1 in
-    let rest2 = (and_true (enters_at cert rest 1) _ rest1).1 in
-    (and_true (enters_at cert rest 2) (enters_at cert rest 3) rest2).0
+    let rest1 = (and_parts (enters_at cert rest 0) _ e).1 in
+    let rest2 = (and_parts (enters_at cert rest 1) _ rest1).1 in
+    (and_parts (enters_at cert rest 2) (enters_at cert rest 3) rest2).0
 enters_tells cert rest e (suc (suc (suc zero))) few =
-    let rest1 = (and_true (enters_at cert rest 0) _ e).1 in
-    let rest2 = (and_true (enters_at cert rest 1) _ rest1).1 in
-    (and_true (enters_at cert rest 2) (enters_at cert rest 3) rest2).1
+    let rest1 = (and_parts (enters_at cert rest 0) _ e).1 in
+    let rest2 = (and_parts (enters_at cert rest 1) _ rest1).1 in
+    (and_parts (enters_at cert rest 2) (enters_at cert rest 3) rest2).1
 enters_tells cert rest e (suc (suc (suc (suc n)))) few = absurd (omega (arith, few))
 
 pub rest_tells : (cert : Cert) (rest : Rest) → ScheduleFits cert.schedule → rest.line < length cert.schedule.lines → rest_test cert
     rest ≡ true → RestPasses cert rest
 unfolding rest_test
 rest_tells cert rest fits line e =
-    let both = and_true (is_quiet_rest cert rest) (enters_always cert rest) e in
+    let both = and_parts (is_quiet_rest cert rest) (enters_always cert rest) e in
     let quiet = quiet_tells cert rest fits line both.0 in
     record { within = quiet.0; leave = quiet.1; quiet = quiet.2; quiet_next = quiet.3; vector = enters_tells cert rest both.1 }
 
@@ -209,7 +182,7 @@ rest_given Alone some h = refl
 pub entry_tells : (cert : Cert) → entry_test cert ≡ true → EntryPasses cert
 unfolding entry_test
 entry_tells cert e =
-    let both = and_true (needs_no_rest cert.entry.kind || ltb 0 (length cert.rests)) _ e in
+    let both = and_parts (needs_no_rest cert.entry.kind || ltb 0 (length cert.rests)) _ e in
     record { rest = λ main. some_rest cert.rests (rest_needed cert.entry.kind (ltb 0 (length cert.rests)) both.0 main); lies = both.1 }
 
 pub entry_told : (cert : Cert) → EntryPasses cert → entry_test cert ≡ true

@@ -1,92 +1,57 @@
 -- A point without facts of lines has the same instance at each line of one kind, and what lies in it lies there at each.
-use Rattle.std.proofs.Common.{◌≡◌, inl, inr, ℕ, zero, suc, ◌+◌, ◌-◌, ◌<◌, Bool, true, false, not, if◌then◌else◌, nat_eq, nat_le, nat_lt}
-use Rattle.std.proofs.Common.{Option, Some, None, List, [], ◌∷◌, map, refl, sym, ◌∙◌, ap, arith}
-use Rattle.std.specs.Prelude.{ℤ, pos, negsuc, ◌+ℤ◌, ◌*ℤ◌, ◌&&◌, ◌||◌, ⊤, option_and_then, slice_get, slice_index_or}
-use Rattle.std.specs.List.{list_all}
-use Rattle.std.proofs.lemmas.Bool.Decides.{eqb_tells, nat_tests}
-use Rattle.uz_schedule.specs.Ends.{Ends}
-use Rattle.uz_schedule.specs.Schedule.{length_of, start_of, level_at}
-use Rattle.uz_schedule.specs.Instances.{val_of, cell_span, pair_of, pairs_of, is_in_box, clock_below, instance_of, instance_at_clock}
-use Rattle.uz_schedule.specs.Instances.{instance_in, instance_at}
+use Rattle.uz_check.proofs.Common.{and_right, and_parts, length, eqb-true, eq-eqb, ◌≡◌, ℕ, zero, suc, ◌+◌, ◌-◌, ◌<◌, Bool, true, false, not}
+use Rattle.uz_check.proofs.Common.{if◌then◌else◌, nat_eq, nat_le, nat_lt, Option, Some, None, List, [], ◌∷◌, map, refl, sym, ◌∙◌, ap, arith}
+use Rattle.uz_check.proofs.Common.{ℤ, pos, negsuc, ◌+ℤ◌, ◌*ℤ◌, ◌&&◌, ◌||◌, ⊤, option_and_then, slice_get, list_all, nat_tests, Ends}
+use Rattle.uz_check.proofs.Common.{length_of, start_of, level_at, val_of, is_in_box, clock_below, instance_of, instance_at_clock}
+use Rattle.uz_check.proofs.Common.{instance_in, instance_at, Val, Schedule, Rest, Point, Instance, Cert, refuse_if, inside, same_bool}
+use Rattle.uz_check.proofs.Common.{cells_inside, restored, return_fail, lies_at, any_from, lies_in_point, keeps_by_lines}
+use Rattle.uz_check.proofs.Common.{pair_keeps_by_lines, has_no_line, same_spans, same_rest, is_on_line}
+use Rattle.uz_check.specs.Folding.{same_ends}
+use Rattle.std.proofs.Common.{slice_index_or}
+use Rattle.uz_schedule.specs.Instances.{cell_span, pair_of, pairs_of}
 use Rattle.uz_schedule.specs.declared.facts.Fact.{Fact}
-use Rattle.uz_schedule.specs.declared.facts.Fact.TheVariants.{Any, Between, Line, Loop, Old as OldFact, OldFlags as OldFlagsFact}
+use Rattle.uz_schedule.specs.declared.facts.Fact.TheVariants.{Line}
 use Rattle.uz_schedule.specs.declared.facts.PairFact.{PairFact}
-use Rattle.uz_schedule.specs.declared.facts.PairFact.TheVariants.{Any as AnyPair, Between as BetweenPair, Line as LinePair}
-use Rattle.uz_schedule.specs.declared.facts.PairFact.TheVariants.{Loop as LoopPair}
-use Rattle.uz_schedule.specs.declared.facts.Val.{Val}
-use Rattle.uz_schedule.specs.declared.lines.Schedule.{Schedule}
-use Rattle.uz_schedule.specs.declared.states.Rest.{Rest}
-use Rattle.uz_schedule.specs.declared.states.Point.{Point}
-use Rattle.uz_schedule.specs.declared.states.Instance.{Instance}
-use Rattle.uz_schedule.specs.declared.certificate.Cert.{Cert}
+use Rattle.uz_schedule.specs.declared.facts.PairFact.TheVariants.{Any as AnyPair, Line as LinePair}
 use Rattle.uz_transfer.specs.declared.fail.Fail.TheVariants.{Clock, Restore}
-use Rattle.uz_transfer.specs.Refusals.{refuse_if}
-use Rattle.uz_rules.specs.Inside.{inside, same_bool, cells_inside, restored}
-use Rattle.uz_rules.specs.Local.{return_fail}
-use Rattle.uz_rules.specs.Successors.{lies_at, any_from, lies_in_point, lies_in_box}
-use Rattle.uz_check.specs.Folding.{keeps_by_lines, pair_keeps_by_lines, has_no_line, same_ends, same_spans, same_rest, is_on_line}
+use Rattle.uz_rules.specs.Successors.{lies_in_box}
 use Rattle.uz_check.proofs.StepMoves.{at_line}
 
 -- Tests
 
-pub and_left : (a b : Bool) → (a && b) ≡ true → a ≡ true
-and_left true b h = refl
-and_left false b h = absurd cc
-
-pub and_right : (a b : Bool) → (a && b) ≡ true → b ≡ true
-and_right true b h = h
-and_right false b h = absurd cc
-
 pub same_is : (a b : Bool) → same_bool a b ≡ true → a ≡ b
 same_is true true h = refl
-same_is true false h = absurd cc
-same_is false true h = absurd cc
 same_is false false h = refl
-
-pub equal_is : (a b : ℕ) → nat_eq a b ≡ true → a ≡ b
-equal_is a b h = grind (arith, nat_tests)
-
-equal_itself : (a : ℕ) → nat_eq a a ≡ true
-equal_itself a = elim (eqb_tells a a) [
-  | inl t ↦ t.0
-  | inr t ↦ absurd (t.1 refl)
-]
+same_is a b h = absurd cc
 
 -- Facts
 
 val_same : (l m c : ℕ) (f : Fact) → keeps_by_lines f ≡ true → val_of l c f ≡ val_of m c f
-val_same l m c Any h = refl
-val_same l m c (Between e) h = refl
 val_same l m c (Line a b) h = absurd cc
-val_same l m c (Loop a b) h = refl
-val_same l m c (OldFact r) h = refl
-val_same l m c OldFlagsFact h = refl
+val_same l m c f h = refl
 
 facts_same : {A : Type 0} (f g : Fact → A) (fs : List Fact) → ((x : Fact) → keeps_by_lines x ≡ true → f x ≡ g x) → list_all keeps_by_lines
     fs ≡ true → map f fs ≡ map g fs
 facts_same f g [] same h = refl
 facts_same f g (x ∷ fs) same h =
-    ap (λ v. v ∷ map f fs) (same x (and_left (keeps_by_lines x) (list_all keeps_by_lines fs) h))
-    ∙ ap (λ vs. g x ∷ vs) (facts_same f g fs same (and_right (keeps_by_lines x) (list_all keeps_by_lines fs) h))
+    let both = and_parts (keeps_by_lines x) (list_all keeps_by_lines fs) h in
+    λ i. same x both.0 i ∷ facts_same f g fs same both.1 i
 
 pair_same : (l m c r : ℕ) (regs : List Val) (f : PairFact) → pair_keeps_by_lines f ≡ true → pair_of l c regs r f ≡ pair_of m c regs r f
-pair_same l m c r regs AnyPair h = refl
-pair_same l m c r regs (BetweenPair e) h = refl
 pair_same l m c r regs (LinePair a b) h = absurd cc
-pair_same l m c r regs (LoopPair a b) h = refl
+pair_same l m c r regs f h = refl
 
 pair_fact : (fs : List PairFact) (k : ℕ) → list_all pair_keeps_by_lines fs ≡ true → pair_keeps_by_lines (slice_index_or fs k AnyPair) ≡ true
 pair_fact [] k h = refl
-pair_fact (f ∷ fs) zero h = and_left (pair_keeps_by_lines f) (list_all pair_keeps_by_lines fs) h
-pair_fact (f ∷ fs) (suc k) h = pair_fact fs k (and_right (pair_keeps_by_lines f) (list_all pair_keeps_by_lines fs) h)
+pair_fact (f ∷ fs) zero h = (and_parts (pair_keeps_by_lines f) (list_all pair_keeps_by_lines fs) h).0
+pair_fact (f ∷ fs) (suc k) h = pair_fact fs k (and_parts (pair_keeps_by_lines f) (list_all pair_keeps_by_lines fs) h).1
 
 pairs_same : (l m c : ℕ) (regs : List Val) (fs : List PairFact) → list_all pair_keeps_by_lines fs ≡ true → pairs_of l c regs fs ≡ pairs_of m
     c regs fs
 pairs_same l m c regs fs h =
-    let f : ℕ → PairFact = λ k. slice_index_or fs k AnyPair in
-    ap (λ e. e ∷ pair_of l c regs 28 (f 1) ∷ pair_of l c regs 30 (f 2) ∷ []) (pair_same l m c 26 regs (f 0) (pair_fact fs 0 h))
-    ∙ (ap (λ e. pair_of m c regs 26 (f 0) ∷ e ∷ pair_of l c regs 30 (f 2) ∷ []) (pair_same l m c 28 regs (f 1) (pair_fact fs 1 h))
-    ∙ ap (λ e. pair_of m c regs 26 (f 0) ∷ pair_of m c regs 28 (f 1) ∷ e ∷ []) (pair_same l m c 30 regs (f 2) (pair_fact fs 2 h)))
+    let same : (r k : ℕ) → pair_of l c regs r (slice_index_or fs k AnyPair) ≡ pair_of m c regs r (slice_index_or fs k AnyPair) = λ r k.
+    pair_same l m c r regs (slice_index_or fs k AnyPair) (pair_fact fs k h) in
+    λ i. same 26 0 i ∷ same 28 1 i ∷ same 30 2 i ∷ []
 
 -- Instances
 
@@ -110,26 +75,20 @@ instance_same p l m c clock level h =
     let b = list_all pair_keeps_by_lines p.pairs in
     let d = list_all keeps_by_lines p.stack.items in
     let e = list_all keeps_by_lines p.cells.items in
-    let rest = and_right a (b && (d && e)) h in
-    let last = and_right b (d && e) rest in
-    let regs = facts_same (val_of m c) (val_of l c) p.regs (λ f k. val_same m l c f k) (and_left a (b && (d && e)) h) in
-    let pairs = pairs_same m l c (map (val_of l c) p.regs) p.pairs (and_left b (d && e) rest) in
-    let stack = facts_same (val_of m c) (val_of l c) p.stack.items (λ f k. val_same m l c f k) (and_left d e last) in
-    let cells = facts_same (cell_span m c) (cell_span l c) p.cells.items (λ f k. span_same m l f k) (and_right d e last) in
+    let rest = (and_parts a (b && (d && e)) h).1 in
+    let last = (and_parts b (d && e) rest).1 in
+    let regs = facts_same (val_of m c) (val_of l c) p.regs (λ f k. val_same m l c f k) (and_parts a (b && (d && e)) h).0 in
+    let pairs = pairs_same m l c (map (val_of l c) p.regs) p.pairs (and_parts b (d && e) rest).0 in
+    let stack = facts_same (val_of m c) (val_of l c) p.stack.items (λ f k. val_same m l c f k) (and_parts d e last).0 in
+    let cells = facts_same (cell_span m c) (cell_span l c) p.cells.items (λ f k. span_same m l f k) (and_parts d e last).1 in
     let there = instance_of p m c clock level in
     let here = instance_of p l c clock level in
-    ap (λ v. with_known there v (pairs_of m c v p.pairs) there.stack.items there.cells.items) regs
-    ∙ (ap (λ v. with_known there here.regs v there.stack.items there.cells.items) pairs
-    ∙ (ap (λ v. with_known there here.regs here.pairs v there.cells.items) stack
-    ∙ ap (λ v. with_known there here.regs here.pairs here.stack.items v) cells))
+    (λ i. with_known there (regs i) (pairs_of m c (regs i) p.pairs) (stack i) (cells i))
+    ∙ ap (λ v. with_known there here.regs v here.stack.items here.cells.items) pairs
   where
     span_same : (l m : ℕ) (f : Fact) → keeps_by_lines f ≡ true → cell_span l c f ≡ cell_span m c f
-    span_same l m Any h = refl
-    span_same l m (Between e) h = refl
     span_same l m (Line a b) h = absurd cc
-    span_same l m (Loop a b) h = refl
-    span_same l m (OldFact r) h = refl
-    span_same l m OldFlagsFact h = refl
+    span_same l m f h = refl
 
 -- lines l and m have one length, and one level at each clock
 pub record LevelsAlike (s : Schedule) (l m : ℕ) : Type 0 where
@@ -196,7 +155,7 @@ instance_is_at s p l c = by_case (is_in_box p l c) (pos p.clock +ℤ p.slope *�
 -- Lies in
 
 inside_moves : (a b : ℕ) (r x : Instance) → inside (at_line a r) (at_line a x) ≡ inside (at_line b r) (at_line b x)
-inside_moves a b r x = rw (equal_itself a, equal_itself b) refl
+inside_moves a b r x = rw (eq-eqb a a refl, eq-eqb b b refl) refl
 
 lies_at_moves : (s : Schedule) (a b : ℕ) (r : Instance) (inst : Option Instance) → IsAt s a inst → lies_at inst (at_line a r) ≡ lies_at
     (moved b inst) (at_line b r)
@@ -206,7 +165,7 @@ lies_at_moves s a b r (Some x) is = ap (λ n. inside (at_line a r) (at_line n x)
 any_same : (f g : ℕ → Bool) (k n : ℕ) → ((c : ℕ) → f c ≡ g c) → any_from f k n ≡ any_from g k n
 unfolding any_from
 any_same f g k zero same = refl
-any_same f g k (suc n) same = ap (λ b. b || any_from f (suc k) n) (same k) ∙ ap (λ b. g k || b) (any_same f g (suc k) n same)
+any_same f g k (suc n) same = λ i. same k i || any_same f g (suc k) n same i
 
 -- the instances of a point by number
 pub by_number : (cert : Cert) (id l c : ℕ) (p : Point) → slice_get cert.points id ≡ Some p → instance_at cert id l c ≡ instance_in
@@ -231,25 +190,28 @@ lies_moves cert id p a b r is h on alike =
 
 ends_are : (a b : Ends) → same_ends a b ≡ true → a ≡ b
 ends_are a b h =
-    ap (λ n. record { lo = n; hi = a.hi }) (equal_is a.lo b.lo (and_left (nat_eq a.lo b.lo) (nat_eq a.hi b.hi) h))
-    ∙ ap (λ n. record { lo = b.lo; hi = n }) (equal_is a.hi b.hi (and_right (nat_eq a.lo b.lo) (nat_eq a.hi b.hi) h))
+    let both = and_parts (nat_eq a.lo b.lo) (nat_eq a.hi b.hi) h in
+    λ i. record { lo = eqb-true a.lo b.lo both.0 i; hi = eqb-true a.hi b.hi both.1 i }
 
 spans_are : (xs ys : List Ends) → same_spans xs ys ≡ true → xs ≡ ys
 spans_are [] [] h = refl
-spans_are [] (y ∷ ys) h = absurd cc
-spans_are (x ∷ xs) [] h = absurd cc
 spans_are (x ∷ xs) (y ∷ ys) h =
-    ap (λ z. z ∷ xs) (ends_are x y (and_left (same_ends x y) (same_spans xs ys) h)) ∙ ap (λ zs. y ∷ zs)
-    (spans_are xs ys (and_right (same_ends x y) (same_spans xs ys) h))
+    let both = and_parts (same_ends x y) (same_spans xs ys) h in
+    λ i. ends_are x y both.0 i ∷ spans_are xs ys both.1 i
+spans_are xs ys h = absurd cc
+
+pub lengths_differ : (xs ys : List Ends) → (length xs ≡ length ys → ⊥) → same_spans xs ys ≡ false
+lengths_differ [] [] h = absurd (h refl)
+lengths_differ (x ∷ xs) (y ∷ ys) h = ap (λ b. same_ends x y && b) (lengths_differ xs ys (λ e. h (omega (arith, e))))
+    ∙ and_right (same_ends x y) false refl
+lengths_differ xs ys h = refl
 
 pub return_moves : (a b : Option Rest) (r : Instance) (m : ℕ) → same_rest a b ≡ true → return_fail a r ≡ return_fail b (at_line m r)
 return_moves None None r m h = refl
-return_moves None (Some b) r m h = absurd cc
-return_moves (Some a) None r m h = absurd cc
 return_moves (Some a) (Some b) r m h =
-    let clocks = nat_eq a.clock b.clock in
-    let cells = same_spans a.cells.items b.cells.items in
-    ap (λ n. refuse_if (not (nat_eq r.clock n)) Clock (refuse_if (not (restored r && cells_inside r.cells.items a.cells.items)) Restore
-    None)) (equal_is a.clock b.clock (and_left clocks cells h))
-    ∙ ap (λ xs. refuse_if (not (nat_eq r.clock b.clock)) Clock (refuse_if (not (restored r && cells_inside r.cells.items xs)) Restore None))
-    (spans_are a.cells.items b.cells.items (and_right clocks cells h))
+    let both = and_parts (nat_eq a.clock b.clock) (same_spans a.cells.items b.cells.items) h in
+    let clock = eqb-true a.clock b.clock both.0 in
+    let cells = spans_are a.cells.items b.cells.items both.1 in
+    λ i. refuse_if (not (nat_eq r.clock (clock i))) Clock (refuse_if (not (restored r && cells_inside r.cells.items (cells i))) Restore
+    None)
+return_moves a b r m h = absurd cc

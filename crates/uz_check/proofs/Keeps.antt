@@ -1,35 +1,14 @@
 -- What a played run keeps.
-use Rattle.std.proofs.Common.{◌≡◌, inl, inr, All, ℕ, zero, suc, ◌+◌, ◌-◌, ◌<◌, ◌≤◌, Bool, true, false, not, cond, List, [], ◌∷◌, ◌++◌, refl}
-use Rattle.std.proofs.Common.{sym, ◌∙◌, ap, subst, arith}
-use Rattle.std.specs.Prelude.{◌&&◌, Option, Some, nat_le, nat_lt}
-use Rattle.std.specs.Ordering.{nat_cmp}
-use Rattle.std.specs.FinMap.{FinMap}
-use Rattle.std.proofs.lemmas.Bool.Decides.{leb_tells}
-use Rattle.std.proofs.lemmas.List.{reverse-append}
-use Rattle.std.proofs.lemmas.List.Elements.{All-filter, filter-append}
-use Rattle.uz_schedule.specs.declared.certificate.Cert.{Cert}
-use Rattle.uz_schedule.specs.Limits.{ScheduleFits}
-use Rattle.uz_schedule.specs.declared.lines.EventKind.{EventKind}
-use Rattle.uz_schedule.specs.declared.lines.EventKind.TheVariants.{Sync, Pixel, Sound, Leave}
-use Rattle.uz_schedule.specs.declared.lines.Schedule.{Schedule}
-use Rattle.uz_schedule.specs.Schedule.{event_at, length_of}
-use Rattle.uz_core.specs.declared.machine.Edge.{Edge}
-use Rattle.uz_core.specs.declared.machine.EdgeKind.{EdgeKind}
-use Rattle.uz_core.specs.declared.machine.EdgeKind.TheVariants as edge
-use Rattle.uz_core.specs.PadLine.{PadHistory}
-use Rattle.uz_core.specs.Turn.{State, sync_level}
-use Rattle.uz_core.specs.Run.{IsClockRun, IsStoppedRun, Run, TurnBefore, edges_until}
-use Rattle.uz_core.specs.StateRange.{IsState}
+use Rattle.uz_check.proofs.Common.{◌≡◌, inl, inr, All, ℕ, zero, suc, ◌+◌, ◌-◌, ◌<◌, ◌≤◌, Bool, true, false, not, cond, List, [], ◌∷◌, ◌++◌}
+use Rattle.uz_check.proofs.Common.{refl, sym, ◌∙◌, ap, subst, arith, ◌&&◌, Option, Some, nat_le, nat_lt, nat_cmp, FinMap, leb_tells}
+use Rattle.uz_check.proofs.Common.{reverse-append, All-filter, filter-append, Cert, ScheduleFits, EventKind, Sync, Schedule, event_at}
+use Rattle.uz_check.proofs.Common.{length_of, Edge, EdgeKind, PadHistory, State, sync_level, Run, TurnBefore, edges_until, IsState}
+use Rattle.uz_check.proofs.Common.{AreTimed, event_of, shown, is_high, newest_first, InTime, scheduled, Plays, PlaysTo, IsSteady}
+use Rattle.uz_check.proofs.Common.{edges_after}
+use Rattle.uz_core.specs.Run.{IsClockRun, IsStoppedRun}
 use Rattle.uz_core.proofs.StateKept.{run_part_kept}
 use Rattle.uz_console.specs.Approaches.{EntersFirst}
-use Rattle.uz_console.specs.Runs.{AreTimed}
-use Rattle.uz_rules.specs.Events.{event_of, shown}
-use Rattle.uz_scan.specs.Lines.{is_high}
-use Rattle.uz_scan.specs.Pictures.{newest_first}
-use Rattle.uz_check.specs.Claim.{InTime, scheduled}
-use Rattle.uz_check.specs.Played.{Plays, PlaysTo}
-use Rattle.uz_check.specs.Steady.{IsSteady}
-use Rattle.uz_check.specs.Keeping.{HasLine, IsScheduledLine, KeepsSchedule, edges_after}
+use Rattle.uz_check.specs.Keeping.{HasLine, IsScheduledLine, KeepsSchedule}
 use Rattle.uz_check.proofs.Changes.{Changes, changes_rest, run_changes}
 use Rattle.uz_check.proofs.EventLists.{Among, StandsAt, among_both, among_left, among_right, edge_shown, event_edge, none_after}
 use Rattle.uz_check.proofs.EventLists.{scheduled_has, scheduled_stands, stretch_is_after}
@@ -37,6 +16,7 @@ use Rattle.uz_check.proofs.Falls.{began, ending_falls, fall_is, no_zero, rose_si
 use Rattle.uz_check.proofs.LinesKept.{PlaceLaws, falls_at, next_falls, none_between, line_some}
 use Rattle.uz_check.proofs.Order.{among_newest, among_oldest, line_order}
 use Rattle.uz_check.proofs.RunParts.{in_time_first, passes, run_timed, within_until}
+use Rattle.uz_core.specs.declared.machine.EdgeKind.TheVariants as edge
 
 -- an edge after a clock is one of those after it
 after_among : (clock : ℕ) (e : Edge) (edges : List Edge) → Among e edges → clock < e.clock → Among e (edges_after clock edges)
@@ -64,20 +44,8 @@ among_after clock e [] none = absurd none
 among_after clock e (x ∷ edges) h = kept_among e x edges (edges_after clock edges) (nat_lt clock x.clock) h (among_after clock e edges)
 
 zero_edge : (kind : EdgeKind) → event_of kind ≡ Some (Sync 0) → kind ≡ edge.Sync 0
-zero_edge (edge.Sync value) is = ap edge.Sync (value_of (Sync value) (Sync 0) is)
-  where
-    sync_value : EventKind → ℕ
-    sync_value (Sync v) = v
-    sync_value Pixel = 0
-    sync_value Sound = 0
-    sync_value Leave = 0
-
-    value_of : (a b : EventKind) → Some a ≡ Some b → sync_value a ≡ sync_value b
-    value_of a b h = (let e : a ≡ b = cc in ap sync_value e)
-zero_edge (edge.Pixel value) is = absurd (cc is)
-zero_edge (edge.Sound value) is = absurd (cc is)
-zero_edge (edge.Enter count) is = absurd (cc is)
-zero_edge edge.Leave is = absurd (cc is)
+zero_edge (edge.Sync value) is = (let same : value ≡ 0 = cc is in ap edge.Sync same)
+zero_edge kind is = absurd (cc is)
 
 module _ (s : Schedule) (laws : PlaceLaws s) (fits : ScheduleFits s) (steady : IsSteady s) (clock p n first last : ℕ) (edges : List Edge)
     (timed : AreTimed first last edges) (changes : Changes (newest_first edges)) (exact : shown (edges_after clock edges) ≡ scheduled
@@ -112,16 +80,7 @@ module _ (s : Schedule) (laws : PlaceLaws s) (fits : ScheduleFits s) (steady : I
   zero_event e is = ap event_of is
 
   same_value : (v w : ℕ) (a b : Option EventKind) → a ≡ b → a ≡ Some (Sync v) → b ≡ Some (Sync w) → v ≡ w
-  same_value v w a b e f g = (let h : Some (Sync v) ≡ Some (Sync w) = sym f ∙ (e ∙ g) in values (Sync v) (Sync w) h)
-    where
-      sync_value : EventKind → ℕ
-      sync_value (Sync x) = x
-      sync_value Pixel = 0
-      sync_value Sound = 0
-      sync_value Leave = 0
-
-      values : (x y : EventKind) → Some x ≡ Some y → sync_value x ≡ sync_value y
-      values x y h = (let k : x ≡ y = cc in ap sync_value k)
+  same_value v w a b e f g = cc
 
   pub line_kept : (from to : ℕ) → HasLine edges from to → clock < from → IsScheduledLine s clock p from to
   line_kept from to line later =
@@ -187,7 +146,12 @@ module _ (s : Schedule) (laws : PlaceLaws s) (fits : ScheduleFits s) (steady : I
             ]
         | inr in_later ↦ (let late = order.later_ones there.edge_there in_later in absurd (omega arith))
       ]) in
-      record { line = place.line; below = place.below; place = place.place; as_long = equal to (from + length_of s place.line) not_before not_after }
+      record {
+        line = place.line;
+        below = place.below;
+        place = place.place;
+        as_long = equal to (from + length_of s place.line) not_before not_after;
+      }
     where
       low_after : (a b : Bool) → (a && not b) ≡ true → b ≡ false
       low_after true true h = sym h

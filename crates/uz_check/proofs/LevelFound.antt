@@ -1,20 +1,12 @@
 -- Where the schedule is steady, each position has a level, 0 or 1.
-use Rattle.std.proofs.Common.{◌≡◌, All, ℕ, ◌+◌, ◌<◌, ◌≤◌, true, eqb, subst, List, [], ◌∷◌, length, get_or, refl, sym, ◌∙◌, ap, arith}
-use Rattle.std.specs.Prelude.{Some, slice_index}
-use Rattle.std.proofs.lemmas.Bool.Decides.{nat_tests}
-use Rattle.std.proofs.lemmas.Option.{slice_get-get_or}
-use Rattle.std.proofs.lemmas.List.Elements.{All-head, All-get_or}
-use Rattle.uz_schedule.specs.Limits.{ScheduleFits}
-use Rattle.uz_schedule.specs.declared.lines.Event.{Event}
-use Rattle.uz_schedule.specs.declared.lines.EventKind.TheVariants.{Sync}
-use Rattle.uz_schedule.specs.declared.lines.Schedule.{Schedule}
-use Rattle.uz_schedule.specs.Schedule.{length_of, start_of, event_in, event_in_kind, events_of, event_at, sync_of, level_at}
+use Rattle.uz_check.proofs.Common.{◌≡◌, All, ℕ, ◌+◌, ◌<◌, ◌≤◌, true, eqb, subst, List, [], ◌∷◌, length, get_or, refl, sym, ◌∙◌, ap, arith}
+use Rattle.uz_check.proofs.Common.{Some, slice_index, nat_tests, slice_get-get_or, All-head, All-get_or, ScheduleFits, Event, Sync}
+use Rattle.uz_check.proofs.Common.{Schedule, length_of, start_of, event_in, event_in_kind, events_of, event_at, sync_of, level_at}
+use Rattle.uz_check.proofs.Common.{frame_some, clocks_within, event_of_place, IsSteadyLine, IsSteady}
 use Rattle.uz_schedule.proofs.SomeLevel.{level_somewhere, level_bit}
-use Rattle.uz_schedule.proofs.Starts.{frame_some, clocks_within, event_of_place}
-use Rattle.uz_check.specs.Steady.{IsSteadyLine, IsSteady}
 
 -- a list whose first event is a fall at this clock has it there
-first_event : (fall : ℕ) (events : List Event) → IsSteadyLine fall events → event_in events fall ≡ Some (Sync 0)
+pub first_event : (fall : ℕ) (events : List Event) → IsSteadyLine fall events → event_in events fall ≡ Some (Sync 0)
 first_event fall events h =
     let here : event_in (h.first ∷ h.later) h.first.clock ≡ Some h.first.kind = let e : eqb h.first.clock h.first.clock ≡ true =
     grind (arith, nat_tests) in rw e refl in

@@ -1,5 +1,5 @@
-mod SteadyTold
-mod Loops
+mod Common
+mod SteadinessLaws
 mod Looked
 mod Totals
 mod Accepting
@@ -9,13 +9,11 @@ pub mod LineEvents
 pub mod StepMoves
 pub mod InstanceMoves
 pub mod LinesFold
-pub mod Spans
 pub mod Runs
 pub mod Covered
 mod Steps
 mod Timer
 mod Ram
-mod Bits
 mod EntryTurn
 mod ReturnTurn
 mod Entries
@@ -23,7 +21,6 @@ mod Quiet
 mod Cells
 mod Fitting
 mod BoxesCovered
-mod Turned
 mod Forth
 mod Timing
 mod Returns
@@ -50,7 +47,6 @@ mod Order
 mod Keeps
 mod ReturnTimes
 mod Positions
-mod Instances
 mod FrameRules
 mod OldRules
 mod OldTimer

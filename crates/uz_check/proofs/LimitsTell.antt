@@ -1,59 +1,36 @@
 -- What a well formed certificate's limits give.
-use Rattle.std.proofs.Common.{◌≡◌, All, Contains, zero, ◌≤◌, true, false, leb, List, [], ◌∷◌, length, refl, ap, subst, arith}
-use Rattle.std.proofs.lemmas.Bool.{leb-true}
-use Rattle.std.proofs.lemmas.List.Elements.{All-nil, All-cons, All-tail}
-use Rattle.uz_schedule.specs.Ends.{Ends, is_within}
-use Rattle.uz_schedule.specs.Tracked as schedule
-use Rattle.uz_schedule.specs.WellFormed.{RangeFits, CellFits, HeadFits, spans_fit, RestFits, BitFits, PointFits, WellFormed}
-use Rattle.uz_schedule.specs.declared.facts.Bit.{Bit}
-use Rattle.uz_schedule.specs.declared.facts.Bit.TheVariants.{Zero, One, Free, Old as OldBit}
-use Rattle.uz_schedule.specs.declared.kinds.Kind.{Kind}
-use Rattle.uz_schedule.specs.declared.kinds.Kind.TheVariants.{Main, Handler, Alone}
-use Rattle.uz_schedule.specs.declared.header.Cell.{Cell}
-use Rattle.uz_schedule.specs.declared.header.Head.{Head}
-use Rattle.uz_schedule.specs.declared.states.Rest.{Rest}
-use Rattle.uz_schedule.specs.declared.states.Point.{Point}
-use Rattle.uz_schedule.specs.declared.certificate.Cert.{Cert}
-use Rattle.uz_transfer.specs.Kinds.{is_main, depth_limit}
-use Rattle.uz_transfer.specs.Memory.{all_flags, is_old}
+use Rattle.uz_check.proofs.Common.{All-contains, and_parts, ◌≡◌, All, Contains, zero, ◌≤◌, true, false, leb, List, [], ◌∷◌, length, refl}
+use Rattle.uz_check.proofs.Common.{ap, subst, arith, leb-true, Ends, RestFits, PointFits, WellFormed, Bit, OldBit, Kind, Main, Handler}
+use Rattle.uz_check.proofs.Common.{Cell, Head, Rest, Point, Cert, is_main, depth_limit, all_flags, is_old}
+use Rattle.std.proofs.lemmas.List.Elements.{All-weaker}
+use Rattle.uz_schedule.specs.Ends.{is_within}
+use Rattle.uz_schedule.specs.WellFormed.{RangeFits, CellFits, HeadFits, spans_fit, BitFits}
 use Rattle.uz_check.proofs.Fits.{SpansFit, HeadLimits, RestLimits, PointLimits, Limits, IsByteRange, EntryLimits}
-use Rattle.uz_check.proofs.Fitting.{and_true}
-
--- what holds of all elements holds of each that is contained
-pub each_of : {A : Type 0} (P : A → Type 0) (xs : List A) (x : A) → All P xs → Contains xs x → P x
-each_of P xs x h has = subst P has.2 (h has.0 x has.1)
-
-mapped : {A : Type 0} (P Q : A → Type 0) (xs : List A) → ((x : A) → P x → Q x) → All P xs → All Q xs
-mapped P Q [] f h = All-nil Q
-mapped P Q (x ∷ xs) f h = All-cons Q x xs (f x (h zero x (omega arith))) (mapped P Q xs f (All-tail P x xs h))
+use Rattle.uz_schedule.specs.Tracked as schedule
 
 bytes : (xs : List Ends) → All (RangeFits 255) xs → All IsByteRange xs
-bytes xs h = mapped (RangeFits 255) IsByteRange xs (λ e f. record { order = f.order; byte = omega (arith, f.high) }) h
+bytes xs h = All-weaker (RangeFits 255) IsByteRange (λ e f. record { order = f.order; byte = omega (arith, f.high) }) xs h
 
 spans_told : (cells : List Cell) (spans : List Ends) → spans_fit cells spans ≡ true → SpansFit cells spans
 spans_told [] [] e = tt
-spans_told [] (r ∷ spans) e = absurd cc
-spans_told (c ∷ cells) [] e = absurd cc
 spans_told (c ∷ cells) (r ∷ spans) e =
-    let both = and_true (is_within r c.range) (spans_fit cells spans) e in
-    let ends = and_true (leb c.range.lo r.lo) (leb r.hi c.range.hi) both.0 in
+    let both = and_parts (is_within r c.range) (spans_fit cells spans) e in
+    let ends = and_parts (leb c.range.lo r.lo) (leb r.hi c.range.hi) both.0 in
     (leb-true c.range.lo r.lo ends.0, leb-true r.hi c.range.hi ends.1, spans_told cells spans both.1)
+spans_told cells spans e = absurd cc
 
 depth_same : (head : Head) (kind : Kind) → schedule.depth_of head kind ≡ depth_limit head kind
 depth_same head Main = refl
-depth_same head Handler = refl
-depth_same head Alone = refl
+depth_same head kind = refl
 
 old_handler : (kind : Kind) (b : Bit) → is_old b ≡ true → BitFits kind b → is_main kind ≡ false
-old_handler kind Zero e h = absurd cc
-old_handler kind One e h = absurd cc
-old_handler kind Free e h = absurd cc
 old_handler kind OldBit e h = ap is_main h
+old_handler kind b e h = absurd cc
 
 old_flags : (kind : Kind) (flags : List Bit) → 1 ≤ length flags → All (BitFits kind) flags → all_flags is_old flags ≡ true
     → is_main kind ≡ false
 old_flags kind [] some h e = absurd (omega (arith, some))
-old_flags kind (b ∷ flags) some h e = old_handler kind b (and_true (is_old b) (all_flags is_old flags) e).0 (h zero b (omega arith))
+old_flags kind (b ∷ flags) some h e = old_handler kind b (and_parts (is_old b) (all_flags is_old flags) e).0 (h zero b (omega arith))
 
 head_limits : (h : Head) → HeadFits h → HeadLimits h
 head_limits h fits = record {
@@ -61,13 +38,13 @@ head_limits h fits = record {
   order = fits.stack.order;
   high = fits.stack.high;
   room = fits.stack.room;
-  ram = λ c has. let cell = each_of (CellFits h) h.cells.items c fits.cells has in (cell.low, cell.high);
-  off = λ c has. (each_of (CellFits h) h.cells.items c fits.cells has).off_stack;
+  ram = λ c has. let cell = All-contains (CellFits h) h.cells.items c fits.cells has in (cell.low, cell.high);
+  off = λ c has. (All-contains (CellFits h) h.cells.items c fits.cells has).off_stack;
 }
 
 rest_limits : (cert : Cert) → WellFormed cert → (rest : Rest) → Contains cert.rests rest → RestLimits cert rest
 rest_limits cert h rest has =
-    let fits = each_of (RestFits cert.head (length cert.schedule.lines) (length cert.points)) cert.rests rest h.rests.each has in
+    let fits = All-contains (RestFits cert.head (length cert.schedule.lines) (length cert.points)) cert.rests rest h.rests.each has in
     record {
       line = fits.line;
       cells = spans_told (schedule.tracked cert.head Handler) rest.cells.items fits.cells.within;
@@ -87,7 +64,8 @@ limits_of cert h = record {
   schedule = h.schedule;
   head = head_limits cert.head h.head;
   rests = rest_limits cert h;
-  points = mapped (PointFits cert.head (length cert.schedule.lines) (length cert.points)) (PointLimits cert) cert.points (point_limits cert)
+  points = All-weaker (PointFits cert.head (length cert.schedule.lines) (length cert.points)) (PointLimits cert) (point_limits cert)
+      cert.points
       h.points.each;
   entry_cells = spans_told (schedule.tracked cert.head cert.entry.kind) cert.entry.cells.items h.entry.facts.cells.within;
 }
@@ -100,7 +78,7 @@ entry_limits cert h = record {
   slots = subst (λ n. length cert.entry.stack.items ≤ n) (depth_same cert.head cert.entry.kind) h.entry.facts.slots;
   stack = bytes cert.entry.stack.items h.entry.facts.stack;
   cells = bytes cert.entry.cells.items h.entry.facts.cells.ranges;
-  rests = λ rest has. bytes rest.cells.items (each_of (RestFits cert.head (length cert.schedule.lines) (length cert.points)) cert.rests rest
-      h.rests.each has).cells.ranges;
+  rests = λ rest has. bytes rest.cells.items (All-contains (RestFits cert.head (length cert.schedule.lines) (length cert.points)) cert.rests
+      rest h.rests.each has).cells.ranges;
   rise = h.head.rise;
 }

@@ -1,16 +1,9 @@
 -- The events and the level of sync of lines of one kind.
-use Rattle.std.proofs.Common.{◌≡◌, inl, inr, ℕ, zero, suc, ◌+◌, ◌-◌, ◌%◌, ◌<◌, ◌≤◌, Option, Some, None, refl, sym, ◌∙◌, ap, subst, length}
-use Rattle.std.proofs.Common.{arith}
-use Rattle.std.specs.Prelude.{slice_get}
-use Rattle.std.proofs.lemmas.Bool.Decides.{eqb_tells, leb_tells}
-use Rattle.std.proofs.lemmas.Option.{slice_get-get_or}
-use Rattle.uz_schedule.specs.Limits.{ScheduleFits}
-use Rattle.uz_schedule.specs.Schedule.{length_of_kind}
-use Rattle.uz_schedule.proofs.Starts.{length_within}
-use Rattle.uz_schedule.specs.declared.lines.Schedule.{Schedule}
-use Rattle.uz_schedule.specs.Schedule.{length_of, start_of, frame_of, next_line, At, event_in_kind, events_of, event_at, sync_of, sync_at}
-use Rattle.uz_schedule.specs.Schedule.{or_else, level_at}
-use Rattle.uz_check.specs.Folding.{kind_of, line_before}
+use Rattle.uz_check.proofs.Common.{◌≡◌, inl, inr, ℕ, zero, suc, ◌+◌, ◌-◌, ◌%◌, ◌<◌, ◌≤◌, Option, Some, None, refl, sym, ◌∙◌, ap, subst}
+use Rattle.uz_check.proofs.Common.{length, arith, slice_get, eqb_tells, leb_tells, slice_get-get_or, ScheduleFits, length_within, Schedule}
+use Rattle.uz_check.proofs.Common.{length_of, start_of, frame_of, next_line, At, event_in_kind, events_of, event_at, sync_of, or_else}
+use Rattle.uz_check.proofs.Common.{level_at, kind_of, line_before}
+use Rattle.uz_schedule.specs.Schedule.{length_of_kind, sync_at}
 
 -- what the public laws of a schedule say
 pub record ScheduleLaws : Type 0 where
@@ -112,9 +105,7 @@ set_in set p (suc n) = or_else (set (p + suc n)) (set_in set p n)
 
 set_alike : (set : ℕ → Option ℕ) (p q n : ℕ) → ((i : ℕ) → i ≤ n → set (p + i) ≡ set (q + i)) → set_in set p n ≡ set_in set q n
 set_alike set p q zero same = refl
-set_alike set p q (suc n) same =
-    ap (λ v. or_else v (set_in set p n)) (same (suc n) (omega arith)) ∙ ap (or_else (set (q + suc n)))
-    (set_alike set p q n (λ i h. same i (omega (arith, h))))
+set_alike set p q (suc n) same = λ i. or_else (same (suc n) (omega arith) i) (set_alike set p q n (λ j h. same j (omega (arith, h))) i)
 
 level_after : ScheduleLaws → (s : Schedule) (p n : ℕ) → 0 < frame_of s → level_at s (p + n) ≡ or_else (set_in (sync_at s) p n)
     (level_at s p)

@@ -1,45 +1,22 @@
 -- The local rule answers alike at two lines of one kind.
-use Rattle.std.proofs.Common.{◌≡◌, ℕ, zero, suc, ◌+◌, ◌-◌, ◌<◌, ◌≤◌, Bool, true, false, not, if◌then◌else◌, nat_eq, nat_le, nat_lt, Option}
-use Rattle.std.proofs.Common.{Some, None, List, [], ◌∷◌, length, refl, sym, ◌∙◌, ap, subst, arith}
-use Rattle.std.specs.Prelude.{◌&&◌, ◌||◌, is_none, Result, Ok, Err, slice_get}
-use Rattle.std.specs.List.{list_all}
-use Rattle.std.specs.Ordering.{nat_cmp}
-use Rattle.std.specs.FinMap.{FinMap}
-use Rattle.std.proofs.lemmas.Bool.Decides.{nat_tests}
-use Rattle.avr_table.specs.declared.Instr.{Instr}
-use Rattle.uz_core.specs.Effects.{effect_of}
-use Rattle.uz_schedule.specs.Limits.{ScheduleFits}
-use Rattle.uz_schedule.specs.Lines.{order_of}
-use Rattle.uz_schedule.specs.Schedule.{length_of, start_of, next_line, event_at, level_at}
-use Rattle.uz_schedule.specs.Instances.{instance_in, instance_at}
-use Rattle.uz_schedule.specs.declared.lines.EventKind.{EventKind}
-use Rattle.uz_schedule.specs.declared.lines.Schedule.{Schedule}
-use Rattle.uz_schedule.specs.declared.states.Point.{Point}
-use Rattle.uz_schedule.specs.declared.states.Instance.{Instance}
-use Rattle.uz_schedule.specs.declared.certificate.Cert.{Cert}
-use Rattle.uz_transfer.specs.declared.fail.Fail.{Fail}
+use Rattle.uz_check.proofs.Common.{leb-true, and_parts, result_fail, Lines, same_Some, eqb-true, ◌≡◌, ℕ, zero, suc, ◌+◌, ◌-◌, ◌<◌, ◌≤◌}
+use Rattle.uz_check.proofs.Common.{Bool, true, false, not, if◌then◌else◌, nat_eq, nat_le, nat_lt, Option, Some, None, List, [], ◌∷◌, length}
+use Rattle.uz_check.proofs.Common.{refl, sym, ◌∙◌, ap, subst, arith, ◌&&◌, ◌||◌, is_none, Result, Ok, Err, slice_get, list_all, nat_cmp}
+use Rattle.uz_check.proofs.Common.{FinMap, Instr, effect_of, ScheduleFits, order_of, length_of, start_of, next_line, event_at, level_at}
+use Rattle.uz_check.proofs.Common.{instance_in, instance_at, EventKind, Schedule, Point, Instance, Cert, Fail, Exit, Step, is_main}
+use Rattle.uz_check.proofs.Common.{refuse_if, is_taken, left_at, left_of, narrowed, with_left, with_some_left, step_of_row, successor}
+use Rattle.uz_check.proofs.Common.{span_of, value_at, Left, is_event, is_quiet, edges_fit, same_bool, is_stop, row_emits_in_main, rest_in}
+use Rattle.uz_check.proofs.Common.{return_fail, first_exit, end_of, has_successors, compares_edges, passes, step_fail, instance_fail}
+use Rattle.uz_check.proofs.Common.{local_fail, lies_in_point, lies_in_any, has_no_line, has_no_line_there, is_plain, kind_of, line_before}
+use Rattle.uz_check.proofs.Common.{same_rest, lines_alike, is_on_line, is_even, boxes_even, folds, FoldingLaw}
 use Rattle.uz_transfer.specs.declared.fail.Fail.TheVariants.{Opcode, Edge, Successor}
-use Rattle.uz_transfer.specs.declared.step.Exit.{Exit}
-use Rattle.uz_transfer.specs.declared.step.Step.{Step}
-use Rattle.uz_transfer.specs.Kinds.{is_main}
-use Rattle.uz_transfer.specs.Refusals.{refuse_if}
-use Rattle.uz_transfer.specs.Narrowed.{is_taken, left_at, left_of, narrowed, with_left, with_some_left}
-use Rattle.uz_transfer.specs.Step.{step_of_row, successor}
-use Rattle.uz_transfer.specs.Values.{span_of, value_at}
-use Rattle.uz_transfer.specs.declared.narrowing.Left.{Left}
-use Rattle.uz_rules.specs.EdgeRule.{is_event, is_quiet, edges_fit}
-use Rattle.uz_rules.specs.Inside.{same_bool}
-use Rattle.uz_rules.specs.Local.{is_stop, row_emits_in_main, rest_in, return_fail, first_exit, end_of, has_successors, result_fail}
-use Rattle.uz_rules.specs.Local.{compares_edges, passes, step_fail, instance_fail, local_fail}
 use Rattle.uz_rules.specs.Cover.{most_values, all_from, at_value, covered_by}
-use Rattle.uz_rules.specs.Successors.{lies_in_point, lies_in_any}
-use Rattle.uz_check.specs.Folding.{has_no_line, has_no_line_there, is_plain, kind_of, line_before, kinds_alike, same_rest, rests_alike}
-use Rattle.uz_check.specs.Folding.{lines_alike, is_on_line, is_even, boxes_even, folds, FoldingLaw}
+use Rattle.uz_check.specs.Folding.{kinds_alike, rests_alike}
 use Rattle.uz_check.proofs.LineEvents.{ScheduleLaws, same_length, long_lines, next_inside, next_before, before_inside, same_two, same_level}
 use Rattle.uz_check.proofs.StepMoves.{at_line, main_emits_moves, LengthsAlike, each_same, step_at, result_at, row_moves, landed}
 use Rattle.uz_check.proofs.StepMoves.{placed_moves, are_few, FewOf, few_row}
-use Rattle.uz_check.proofs.InstanceMoves.{and_left, and_right, same_is, equal_is, moved, LevelsAlike, instance_moves, IsAt, instance_is_at}
-use Rattle.uz_check.proofs.InstanceMoves.{by_number, lies_moves, return_moves}
+use Rattle.uz_check.proofs.InstanceMoves.{same_is, moved, LevelsAlike, instance_moves, IsAt, instance_is_at, by_number, lies_moves}
+use Rattle.uz_check.proofs.InstanceMoves.{return_moves}
 
 -- What the conditions give of a line and the two that follow it
 
@@ -52,25 +29,22 @@ pub record Alike (cert : Cert) (l m n : ℕ) : Type 0 where
   pub rest : same_rest (rest_in cert.rests l) (rest_in cert.rests m) ≡ true
   pub rest_next : same_rest (rest_in cert.rests l) (rest_in cert.rests n) ≡ true
 
-abbrev AlikeAt : Cert → ℕ → Type 0
-AlikeAt cert l = Alike cert l (next_line cert.schedule l) (next_line cert.schedule (next_line cert.schedule l))
-
 alike_of : ScheduleLaws → (cert : Cert) (l : ℕ) → ScheduleFits cert.schedule → l < length cert.schedule.lines → lines_alike cert l ≡ true
-    → AlikeAt cert l
+    → Alike cert l (next_line cert.schedule l) (next_line cert.schedule (next_line cert.schedule l))
 alike_of laws cert l fits h alike =
     let s = cert.schedule in
     let e = line_before s l in
     let m = next_line s l in
     let n = next_line s m in
-    let kinds = and_left (kinds_alike s l) (rests_alike s cert.rests l) alike in
-    let rests = and_right (kinds_alike s l) (rests_alike s cert.rests l) alike in
+    let kinds = (and_parts (kinds_alike s l) (rests_alike s cert.rests l) alike).0 in
+    let rests = (and_parts (kinds_alike s l) (rests_alike s cert.rests l) alike).1 in
     let a = nat_eq (kind_of s e) (kind_of s l) in
     let b = nat_eq (kind_of s m) (kind_of s l) in
     let d = nat_eq (kind_of s n) (kind_of s l) in
     let on : next_line s e ≡ l = next_before s l h in
-    let at_e : kind_of s e ≡ kind_of s l = equal_is (kind_of s e) (kind_of s l) (and_left a (b && d) kinds) in
-    let at_m : kind_of s m ≡ kind_of s l = equal_is (kind_of s m) (kind_of s l) (and_left b d (and_right a (b && d) kinds)) in
-    let at_n : kind_of s n ≡ kind_of s l = equal_is (kind_of s n) (kind_of s l) (and_right b d (and_right a (b && d) kinds)) in
+    let at_e : kind_of s e ≡ kind_of s l = eqb-true (kind_of s e) (kind_of s l) (and_parts a (b && d) kinds).0 in
+    let at_m : kind_of s m ≡ kind_of s l = eqb-true (kind_of s m) (kind_of s l) (and_parts b d (and_parts a (b && d) kinds).1).0 in
+    let at_n : kind_of s n ≡ kind_of s l = eqb-true (kind_of s n) (kind_of s l) (and_parts b d (and_parts a (b && d) kinds).1).1 in
     let e_l : kind_of s e ≡ kind_of s (next_line s e) = at_e ∙ sym (ap (kind_of s) on) in
     let l_m : kind_of s (next_line s e) ≡ kind_of s (next_line s (next_line s e)) = ap (kind_of s) on
     ∙ (sym at_m ∙ sym (ap (λ q. kind_of s (next_line s q)) on)) in
@@ -86,10 +60,10 @@ alike_of laws cert l fits h alike =
         levels = λ k g. same_level laws s fits l k h (sym at_m) (at_m ∙ sym at_n) g;
       };
       long = long_lines s fits m;
-      rest = and_left (same_rest (rest_in cert.rests l) (rest_in cert.rests m)) (same_rest (rest_in cert.rests l) (rest_in cert.rests n))
-          rests;
-      rest_next = and_right (same_rest (rest_in cert.rests l) (rest_in cert.rests m))
-          (same_rest (rest_in cert.rests l) (rest_in cert.rests n)) rests;
+      rest = (and_parts (same_rest (rest_in cert.rests l) (rest_in cert.rests m)) (same_rest (rest_in cert.rests l) (rest_in cert.rests n))
+          rests).0;
+      rest_next = (and_parts (same_rest (rest_in cert.rests l) (rest_in cert.rests m))
+          (same_rest (rest_in cert.rests l) (rest_in cert.rests n)) rests).1;
     }
 
 -- Edge
@@ -97,34 +71,17 @@ alike_of laws cert l fits h alike =
 quiet_same : (at bt : ℕ → Option EventKind) (p q n : ℕ) → ((k : ℕ) → k ≤ n → at (p + k) ≡ bt (q + k)) → is_quiet at p n ≡ is_quiet bt q n
 unfolding is_quiet
 quiet_same at bt p q zero h = refl
-quiet_same at bt p q (suc n) h =
-    ap (λ b. b && is_none (at (p + suc n))) (quiet_same at bt p q n (λ k g. h k (omega (arith, g))))
-    ∙ ap (λ e. is_quiet bt q n && is_none e) (h (suc n) (omega arith))
+quiet_same at bt p q (suc n) h = λ i. quiet_same at bt p q n (λ k g. h k (omega (arith, g))) i && is_none (h (suc n) (omega arith) i)
 
 edges_same : (s : Schedule) (p q : ℕ) (emitted : Option EventKind) (xs : List Exit)
     → ((k : ℕ) → k ≤ 4 → event_at s (p + k) ≡ event_at s (q + k)) → are_few xs ≡ true
     → edges_fit s p emitted xs ≡ edges_fit s q emitted xs
 edges_same s p q emitted [] h few = refl
 edges_same s p q emitted (x ∷ xs) h few =
-    let low = and_left (nat_le x.clocks 4) (are_few xs) few in
-    let bound : x.clocks ≤ 4 = grind (arith, nat_tests, low) in
-    ap (λ b. (b && is_event (event_at s (p + x.clocks)) emitted) && edges_fit s p emitted xs)
-    (quiet_same (event_at s) (event_at s) p q (x.clocks - 1) (λ k g. h k (omega (arith, g, bound))))
-    ∙ (ap (λ e. (is_quiet (event_at s) q (x.clocks - 1) && is_event e emitted) && edges_fit s p emitted xs) (h x.clocks bound)
-    ∙ ap (λ b. (is_quiet (event_at s) q (x.clocks - 1) && is_event (event_at s (q + x.clocks)) emitted) && b)
-    (edges_same s p q emitted xs h (and_right (nat_le x.clocks 4) (are_few xs) few)))
-
-compares_same : (cert : Cert) (l : ℕ) (i : Instance) (step : Step) → AlikeAt cert l → i.clock < length_of cert.schedule l
-    → are_few step.exits.items ≡ true
-    → compares_edges cert (at_line l i) step ≡ compares_edges cert (at_line (next_line cert.schedule l) i)
-    (step_at (next_line cert.schedule l) step)
-compares_same cert l i step same low few =
-    let s = cert.schedule in
-    let m = next_line s l in
-    let room = same.long in
-    ap (λ b. is_main i.kind || b)
-    (edges_same s (start_of s l + i.clock) (start_of s m + i.clock) step.emit step.exits.items
-    (λ k g. ap (event_at s) (omega arith) ∙ (same.events (i.clock + k) (omega (arith, low, g, room)) ∙ ap (event_at s) (omega arith))) few)
+    let both = and_parts (nat_le x.clocks 4) (are_few xs) few in
+    let bound : x.clocks ≤ 4 = leb-true x.clocks 4 both.0 in
+    let quiet = quiet_same (event_at s) (event_at s) p q (x.clocks - 1) (λ k g. h k (omega (arith, g, bound))) in
+    λ i. (quiet i && is_event (h x.clocks bound i) emitted) && edges_same s p q emitted xs h both.1 i
 
 -- Results: those on line l go to line m, and those on line m to line n
 
@@ -133,25 +90,6 @@ by_way : (Same : ℕ → ℕ → Type 0) (l m n : ℕ) (t u : Bool) → Same l m
 by_way Same l m n true u first second = first
 by_way Same l m n false true first second = first
 by_way Same l m n false false first second = second
-
--- what is asked alike of an instance at line l and at line m, and at m and at n, is asked alike of the results at l and at m
-of_result : {A : Type 0} (s : Schedule) (l : ℕ) (i : Instance) (step : Step) (asked : Instance → A)
-    → length_of s (next_line s l) ≡ length_of s l → ((r : Instance) → asked (at_line l r) ≡ asked (at_line (next_line s l) r))
-    → ((r : Instance) → asked (at_line (next_line s l) r) ≡ asked (at_line (next_line s (next_line s l)) r))
-    → (x : Exit) → asked (successor (order_of s) (at_line l i) step x) ≡ asked (successor (order_of s) (at_line (next_line s l) i)
-    (step_at (next_line s l) step) x)
-of_result s l i step asked long first second x =
-    let lines = order_of s in
-    let m = next_line s l in
-    let n = next_line s m in
-    let r = successor lines (at_line l i) step x in
-    let k = i.clock + x.clocks in
-    let to = landed (is_main i.kind) k (length_of s l) m n in
-    let goes : successor lines (at_line m i) (step_at m step) x ≡ at_line to r = placed_moves lines m (at_line l i) step.draft step.emit
-    step.clears x long in
-    let same : asked r ≡ asked (at_line to r) =
-    by_way (λ a b. asked (at_line a r) ≡ asked (at_line b r)) l m n (is_main i.kind) (nat_lt k (length_of s l)) (first r) (second r) in
-    same ∙ sym (ap asked goes)
 
 -- Successors
 
@@ -162,78 +100,19 @@ both_of_all : {A : Type 0} (f g : A → Bool) (xs : List A) → list_all f xs �
     xs ≡ true
 both_of_all f g [] h k = refl
 both_of_all f g (x ∷ xs) h k =
-    let first = and_left (f x) (list_all f xs) h in
-    let second = and_left (g x) (list_all g xs) k in
-    rw (first, second) (both_of_all f g xs (and_right (f x) (list_all f xs) h) (and_right (g x) (list_all g xs) k))
+    let first = (and_parts (f x) (list_all f xs) h).0 in
+    let second = (and_parts (g x) (list_all g xs) k).0 in
+    rw (first, second) (both_of_all f g xs (and_parts (f x) (list_all f xs) h).1 (and_parts (g x) (list_all g xs) k).1)
 
 -- a point that isn't there holds nothing
 nowhere : (cert : Cert) (id : ℕ) (r : Instance) → slice_get cert.points id ≡ None → lies_in_point cert id r ≡ false
 nowhere cert id r e = rw e refl
 
-pub record LiesAlike (cert : Cert) (id l m n : ℕ) (r : Instance) : Type 0 where
-  pub first : lies_in_point cert id (at_line l r) ≡ lies_in_point cert id (at_line m r)
-  pub second : lies_in_point cert id (at_line m r) ≡ lies_in_point cert id (at_line n r)
-
-lies_alike : (cert : Cert) (id l : ℕ) (r : Instance) → AlikeAt cert l → (q : Option Point) → slice_get cert.points id ≡ q → successor_alike
-    cert.schedule l q ≡ true
-    → LiesAlike cert id l (next_line cert.schedule l) (next_line cert.schedule (next_line cert.schedule l)) r
-lies_alike cert id l r same None e h =
-    let m = next_line cert.schedule l in
-    let n = next_line cert.schedule m in
-    record {
-      first = nowhere cert id (at_line l r) e ∙ sym (nowhere cert id (at_line m r) e);
-      second = nowhere cert id (at_line m r) e ∙ sym (nowhere cert id (at_line n r) e);
-    }
-lies_alike cert id l r same (Some q) e h =
-    let s = cert.schedule in
-    let m = next_line s l in
-    let n = next_line s m in
-    let a = same_bool (is_on_line q l) (is_on_line q m) in
-    let b = same_bool (is_on_line q l) (is_on_line q n) in
-    let own = and_left (has_no_line q) (a && b) h in
-    let even = and_right (has_no_line q) (a && b) h in
-    let on_m = same_is (is_on_line q l) (is_on_line q m) (and_left a b even) in
-    let on_n = same_is (is_on_line q l) (is_on_line q n) (and_right a b even) in
-    record {
-      first = lies_moves cert id q l m r e own on_m same.first;
-      second = lies_moves cert id q m n r e own (sym on_m ∙ on_n) same.second;
-    }
-
-abbrev AllAlike : Cert → ℕ → List ℕ → Type 0
-AllAlike cert l ids = list_all (λ id. successor_alike cert.schedule l (slice_get cert.points id)) ids ≡ true
-
-any_first : (cert : Cert) (l : ℕ) (r : Instance) (ids : List ℕ) → AlikeAt cert l → AllAlike cert l ids → lies_in_any cert ids
-    (at_line l r) ≡ lies_in_any cert ids (at_line (next_line cert.schedule l) r)
-any_first cert l r [] same h = refl
-any_first cert l r (id ∷ ids) same h =
-    let m = next_line cert.schedule l in
-    let q = slice_get cert.points id in
-    let later = list_all (λ id. successor_alike cert.schedule l (slice_get cert.points id)) ids in
-    ap (λ t. t || lies_in_any cert ids (at_line l r))
-    (lies_alike cert id l r same q refl (and_left (successor_alike cert.schedule l q) later h)).first
-    ∙ ap (λ t. lies_in_point cert id (at_line m r) || t)
-    (any_first cert l r ids same (and_right (successor_alike cert.schedule l q) later h))
-
-any_second : (cert : Cert) (l : ℕ) (r : Instance) (ids : List ℕ) → AlikeAt cert l → AllAlike cert l ids
-    → lies_in_any cert ids (at_line (next_line cert.schedule l) r) ≡ lies_in_any cert ids
-    (at_line (next_line cert.schedule (next_line cert.schedule l)) r)
-any_second cert l r [] same h = refl
-any_second cert l r (id ∷ ids) same h =
-    let m = next_line cert.schedule l in
-    let n = next_line cert.schedule m in
-    let q = slice_get cert.points id in
-    let later = list_all (λ id. successor_alike cert.schedule l (slice_get cert.points id)) ids in
-    ap (λ t. t || lies_in_any cert ids (at_line m r))
-    (lies_alike cert id l r same q refl (and_left (successor_alike cert.schedule l q) later h)).second
-    ∙ ap (λ t. lies_in_point cert id (at_line n r) || t)
-    (any_second cert l r ids same (and_right (successor_alike cert.schedule l q) later h))
-
 -- with each value of the register of a cover
 each_value_same : (f g : ℕ → Bool) (k n : ℕ) → ((v : ℕ) → f v ≡ g v) → all_from f k n ≡ all_from g k n
 unfolding all_from
 each_value_same f g k zero same = refl
-each_value_same f g k (suc n) same =
-    ap (λ b. b && all_from f (suc k) n) (same k) ∙ ap (λ b. g k && b) (each_value_same f g (suc k) n same)
+each_value_same f g k (suc n) same = λ i. same k i && each_value_same f g (suc k) n same i
 
 -- where a result and one on another line are alike with each value of a register, both are covered by them or none
 covered_same : (cert : Cert) (a b : ℕ) (r : Instance) (ids : List ℕ) (split : Option ℕ)
@@ -249,9 +128,7 @@ covered_same cert a b r ids (Some q) same =
 result_same : (cert : Cert) (a b : ℕ) (r : Instance) (ids : List ℕ) (split : Option ℕ)
     → ((x : Instance) → lies_in_any cert ids (at_line a x) ≡ lies_in_any cert ids (at_line b x))
     → passes cert ids split (Some (at_line a r)) ≡ passes cert ids split (Some (at_line b r))
-result_same cert a b r ids split same =
-    ap (λ t. t || covered_by cert ids split (at_line a r)) (same r)
-    ∙ ap (λ t. lies_in_any cert ids (at_line b r) || t) (covered_same cert a b r ids split same)
+result_same cert a b r ids split same = λ i. same r i || covered_same cert a b r ids split same i
 
 -- of what is left at an exit
 left_same : (cert : Cert) (a b : ℕ) (r : Instance) (ids : List ℕ) (split : Option ℕ) (left : Option Left)
@@ -260,99 +137,139 @@ left_same : (cert : Cert) (a b : ℕ) (r : Instance) (ids : List ℕ) (split : O
 left_same cert a b r ids split None same = refl
 left_same cert a b r ids split (Some left) same = result_same cert a b (with_left left r) ids split same
 
-successors_same : (cert : Cert) (next : List ℕ) (split : Option ℕ) (l : ℕ) (i : Instance) (step : Step) → AlikeAt cert l
-    → AllAlike cert l next
-    → has_successors cert next split (at_line l i) step ≡ has_successors cert next split (at_line (next_line cert.schedule l) i)
-    (step_at (next_line cert.schedule l) step)
-successors_same cert next split l i step same named =
-    let s = cert.schedule in
-    let m = next_line s l in
-    let n = next_line s m in
-    each_same (λ x. passes cert next split (narrowed step.test x (successor (order_of s) (at_line l i) step x)))
-    (λ x. passes cert next split (narrowed step.test x (successor (order_of s) (at_line m i) (step_at m step) x))) step.exits.items
-    (λ x. of_result s l i step (λ r. passes cert next split (narrowed step.test x r)) same.first.lengths
-    (λ r. left_same cert l m r next split (left_at step.test (is_taken x) r.compared (left_of r)) (λ y. any_first cert l y next same named))
-    (λ r. left_same cert m n r next split (left_at step.test (is_taken x) r.compared (left_of r)) (λ y. any_second cert l y next same named))
-    x)
-
--- Returns
-
-returns_same : (cert : Cert) (l : ℕ) (i : Instance) (step : Step) → AlikeAt cert l
-    → return_fail (rest_in cert.rests (end_of cert (at_line l i) step).line) (end_of cert (at_line l i) step)
-    ≡ return_fail (rest_in cert.rests (end_of cert (at_line (next_line cert.schedule l) i) (step_at (next_line cert.schedule l) step)).line)
-    (end_of cert (at_line (next_line cert.schedule l) i) (step_at (next_line cert.schedule l) step))
-returns_same cert l i step same =
-    let s = cert.schedule in
-    let m = next_line s l in
-    let n = next_line s m in
-    let at = rest_in cert.rests in
-    of_result s l i step (λ r. return_fail (at r.line) r) same.first.lengths
-    (λ r. return_moves (at l) (at m) (at_line l r) m same.rest)
-    (λ r. sym (return_moves (at l) (at m) r m same.rest) ∙ return_moves (at l) (at n) r n same.rest_next)
-    (first_exit step.exits.items)
-
--- The rule
-
-results_same : (cert : Cert) (next : List ℕ) (split : Option ℕ) (l : ℕ) (i : Instance) (step : Step) → AlikeAt cert l
-    → AllAlike cert l next
-    → result_fail cert next split (at_line l i) step ≡ result_fail cert next split (at_line (next_line cert.schedule l) i)
-    (step_at (next_line cert.schedule l) step)
-results_same cert next split l i step same named =
-    let m = next_line cert.schedule l in
-    let a = at_line l i in
-    let b = at_line m i in
-    let t = step_at m step in
-    ap (λ f. if step.back then f else refuse_if (not (has_successors cert next split a step)) Successor None)
-    (returns_same cert l i step same)
-    ∙ ap (λ h. if step.back then return_fail (rest_in cert.rests (end_of cert b t).line) (end_of cert b t) else refuse_if (not h) Successor
-    None) (successors_same cert next split l i step same named)
-
-steps_same : (cert : Cert) (next : List ℕ) (split : Option ℕ) (l : ℕ) (i : Instance) (emits : Bool) → AlikeAt cert l
-    → i.clock < length_of cert.schedule l → AllAlike cert l next → (r : Result Step Fail) → FewOf r
-    → step_fail cert next split (at_line l i) emits r ≡ step_fail cert next split (at_line (next_line cert.schedule l) i) emits
-    (result_at (next_line cert.schedule l) r)
-steps_same cert next split l i emits same low named (Err why) few = refl
-steps_same cert next split l i emits same low named (Ok step) few =
-    let m = next_line cert.schedule l in
-    ap (λ b. refuse_if emits Edge (refuse_if (not b) Edge (result_fail cert next split (at_line l i) step)))
-    (compares_same cert l i step same low few)
-    ∙ ap (λ f. refuse_if emits Edge (refuse_if (not (compares_edges cert (at_line m i) (step_at m step))) Edge f))
-    (results_same cert next split l i step same named)
-
-instances_same : (image : FinMap nat_cmp ℕ) (cert : Cert) (next : List ℕ) (split : Option ℕ) (row : Instr) (l : ℕ) → AlikeAt cert l
-    → AllAlike cert l next → is_stop (effect_of row) ≡ false
-    → (o : Option Instance) → IsAt cert.schedule l o → instance_fail image cert next split (Some row) (moved l o) ≡ instance_fail image cert
-    next split (Some row) (moved (next_line cert.schedule l) o)
-instances_same image cert next split row l same named runs None is = refl
-instances_same image cert next split row l same named runs (Some i) is =
-    let s = cert.schedule in
-    let m = next_line s l in
-    let a = at_line l i in
-    let b = at_line m i in
-    let step = step_of_row cert.head (order_of s) image (Some row) a in
-    let lengths : LengthsAlike (order_of s) l m = record { own = same.first.lengths; next = same.second.lengths } in
-    steps_same cert next split l i (row_emits_in_main (Some row) a) same is.1 named step (few_row cert.head (order_of s) image row a runs)
-    ∙ (ap (λ t. step_fail cert next split b (is_main i.kind && t) (result_at m step)) (main_emits_moves (effect_of row) l i
-    ∙ sym (main_emits_moves (effect_of row) m i))
-    ∙ ap (step_fail cert next split b (row_emits_in_main (Some row) b)) (sym (row_moves cert.head (order_of s) image (Some row) m a lengths)))
-
 own_line : (s : Schedule) (l : ℕ) (o : Option Instance) → IsAt s l o → o ≡ moved l o
 own_line s l None is = refl
 own_line s l (Some i) is = ap (λ n. Some (at_line n i)) is.0
 
-rows_same : (image : FinMap nat_cmp ℕ) (cert : Cert) (next : List ℕ) (split : Option ℕ) (row : Option Instr) (l : ℕ) → AlikeAt cert l
-    → AllAlike cert l next
-    → (o : Option Instance) → IsAt cert.schedule l o → local_fail image cert next split row o ≡ local_fail image cert next split row
-    (moved (next_line cert.schedule l) o)
-rows_same image cert next split None l same named o is = refl
-rows_same image cert next split (Some row) l same named o is =
-    by_case (is_stop (effect_of row)) _ _ (λ runs.
-    ap (instance_fail image cert next split (Some row)) (own_line cert.schedule l o is)
-    ∙ instances_same image cert next split row l same named runs o is)
-  where
-    by_case : (b : Bool) (x y : Option Fail) → (b ≡ false → x ≡ y) → refuse_if b Opcode x ≡ refuse_if b Opcode y
-    by_case true x y h = refl
-    by_case false x y h = h refl
+module _ (cert : Cert) (l : ℕ) where
+  abbrev m : ℕ
+  m = next_line cert.schedule l
+
+  abbrev n : ℕ
+  n = next_line cert.schedule m
+
+  abbrev lines : Lines
+  lines = order_of cert.schedule
+
+  abbrev AllAlike : List ℕ → Type 0
+  AllAlike ids = list_all (λ id. successor_alike cert.schedule l (slice_get cert.points id)) ids ≡ true
+
+  record LiesAlike (id : ℕ) (r : Instance) : Type 0 where
+    first : lies_in_point cert id (at_line l r) ≡ lies_in_point cert id (at_line m r)
+    second : lies_in_point cert id (at_line m r) ≡ lies_in_point cert id (at_line n r)
+
+  module _ (same : Alike cert l m n) where
+    compares_same : (i : Instance) (step : Step) → i.clock < length_of cert.schedule l → are_few step.exits.items ≡ true
+        → compares_edges cert (at_line l i) step ≡ compares_edges cert (at_line m i) (step_at m step)
+    compares_same i step low few =
+        let s = cert.schedule in
+        let room = same.long in
+        ap (λ b. is_main i.kind || b)
+        (edges_same s (start_of s l + i.clock) (start_of s m + i.clock) step.emit step.exits.items
+        (λ k g. ap (event_at s) (omega arith) ∙ (same.events (i.clock + k) (omega (arith, low, g, room)) ∙ ap (event_at s) (omega arith)))
+        few)
+
+    -- what is asked alike of an instance at line l and at line m, and at m and at n, is asked alike of the results at l and at m
+    of_result : {A : Type 0} (i : Instance) (step : Step) (asked : Instance → A)
+        → ((r : Instance) → asked (at_line l r) ≡ asked (at_line m r)) → ((r : Instance) → asked (at_line m r) ≡ asked (at_line n r))
+        → (x : Exit) → asked (successor lines (at_line l i) step x) ≡ asked (successor lines (at_line m i) (step_at m step) x)
+    of_result i step asked first second x =
+        let r = successor lines (at_line l i) step x in
+        let k = i.clock + x.clocks in
+        let to = landed (is_main i.kind) k (length_of cert.schedule l) m n in
+        let goes : successor lines (at_line m i) (step_at m step) x ≡ at_line to r = placed_moves lines m (at_line l i) step.draft step.emit
+        step.clears x same.first.lengths in
+        let alike : asked r ≡ asked (at_line to r) =
+        by_way (λ a b. asked (at_line a r) ≡ asked (at_line b r)) l m n (is_main i.kind) (nat_lt k (length_of cert.schedule l)) (first r)
+        (second r) in
+        alike ∙ sym (ap asked goes)
+
+    lies_alike : (id : ℕ) (r : Instance) (q : Option Point) → slice_get cert.points id ≡ q → successor_alike cert.schedule l q ≡ true
+        → LiesAlike id r
+    lies_alike id r None e h = record {
+      first = nowhere cert id (at_line l r) e ∙ sym (nowhere cert id (at_line m r) e);
+      second = nowhere cert id (at_line m r) e ∙ sym (nowhere cert id (at_line n r) e);
+    }
+    lies_alike id r (Some q) e h =
+        let a = same_bool (is_on_line q l) (is_on_line q m) in
+        let b = same_bool (is_on_line q l) (is_on_line q n) in
+        let both = and_parts (has_no_line q) (a && b) h in
+        let even = and_parts a b both.1 in
+        let on_m = same_is (is_on_line q l) (is_on_line q m) even.0 in
+        let on_n = same_is (is_on_line q l) (is_on_line q n) even.1 in
+        record {
+          first = lies_moves cert id q l m r e both.0 on_m same.first;
+          second = lies_moves cert id q m n r e both.0 (sym on_m ∙ on_n) same.second;
+        }
+
+    any_alike : (a b : ℕ) (r : Instance)
+        → ((id : ℕ) → LiesAlike id r → lies_in_point cert id (at_line a r) ≡ lies_in_point cert id (at_line b r))
+        → (ids : List ℕ) → AllAlike ids → lies_in_any cert ids (at_line a r) ≡ lies_in_any cert ids (at_line b r)
+    any_alike a b r pick [] h = refl
+    any_alike a b r pick (id ∷ ids) h =
+        let q = slice_get cert.points id in
+        let both = and_parts (successor_alike cert.schedule l q) _ h in
+        λ i. pick id (lies_alike id r q refl both.0) i || any_alike a b r pick ids both.1 i
+
+    returns_same : (i : Instance) (step : Step) → return_fail (rest_in cert.rests (end_of cert (at_line l i) step).line)
+        (end_of cert (at_line l i) step)
+        ≡ return_fail (rest_in cert.rests (end_of cert (at_line m i) (step_at m step)).line) (end_of cert (at_line m i) (step_at m step))
+    returns_same i step =
+        let at = rest_in cert.rests in
+        of_result i step (λ r. return_fail (at r.line) r) (λ r. return_moves (at l) (at m) (at_line l r) m same.rest)
+        (λ r. sym (return_moves (at l) (at m) r m same.rest) ∙ return_moves (at l) (at n) r n same.rest_next)
+        (first_exit step.exits.items)
+
+    -- The rule, at a point's named successors
+
+    module _ (next : List ℕ) (split : Option ℕ) (named : AllAlike next) where
+      successors_same : (i : Instance) (step : Step) → has_successors cert next split (at_line l i) step ≡ has_successors cert next split
+          (at_line m i) (step_at m step)
+      successors_same i step =
+          each_same (λ x. passes cert next split (narrowed step.test x (successor lines (at_line l i) step x)))
+          (λ x. passes cert next split (narrowed step.test x (successor lines (at_line m i) (step_at m step) x))) step.exits.items
+          (λ x. of_result i step (λ r. passes cert next split (narrowed step.test x r))
+          (λ r. left_same cert l m r next split (left_at step.test (is_taken x) r.compared (left_of r))
+          (λ y. any_alike l m y (λ id alike. alike.first) next named))
+          (λ r. left_same cert m n r next split (left_at step.test (is_taken x) r.compared (left_of r))
+          (λ y. any_alike m n y (λ id alike. alike.second) next named)) x)
+
+      results_same : (i : Instance) (step : Step) → result_fail cert next split (at_line l i) step
+          ≡ result_fail cert next split (at_line m i)
+          (step_at m step)
+      results_same i step = λ j. if step.back then returns_same i step j else refuse_if (not (successors_same i step j)) Successor None
+
+      steps_same : (i : Instance) (emits : Bool) → i.clock < length_of cert.schedule l → (r : Result Step Fail) → FewOf r
+          → step_fail cert next split (at_line l i) emits r ≡ step_fail cert next split (at_line m i) emits (result_at m r)
+      steps_same i emits low (Err why) few = refl
+      steps_same i emits low (Ok step) few = λ j. refuse_if emits Edge (refuse_if (not (compares_same i step low few j)) Edge
+          (results_same i step j))
+
+      module _ (image : FinMap nat_cmp ℕ) where
+        instances_same : (row : Instr) → is_stop (effect_of row) ≡ false → (o : Option Instance) → IsAt cert.schedule l o
+            → instance_fail image cert next split (Some row) (moved l o) ≡ instance_fail image cert next split (Some row) (moved m o)
+        instances_same row runs None is = refl
+        instances_same row runs (Some i) is =
+            let a = at_line l i in
+            let b = at_line m i in
+            let step = step_of_row cert.head lines image (Some row) a in
+            let lengths : LengthsAlike lines l m = record { own = same.first.lengths; next = same.second.lengths } in
+            steps_same i (row_emits_in_main (Some row) a) is.1 step (few_row cert.head lines image row a runs)
+            ∙ (ap (λ t. step_fail cert next split b (is_main i.kind && t) (result_at m step)) (main_emits_moves (effect_of row) l i
+            ∙ sym (main_emits_moves (effect_of row) m i))
+            ∙ ap (step_fail cert next split b (row_emits_in_main (Some row) b))
+            (sym (row_moves cert.head lines image (Some row) m a lengths)))
+
+        rows_same : (row : Option Instr) (o : Option Instance) → IsAt cert.schedule l o
+            → local_fail image cert next split row o ≡ local_fail image cert next split row (moved m o)
+        rows_same None o is = refl
+        rows_same (Some row) o is =
+            by_case (is_stop (effect_of row)) _ _ (λ runs.
+            ap (instance_fail image cert next split (Some row)) (own_line cert.schedule l o is) ∙ instances_same row runs o is)
+          where
+            by_case : (b : Bool) (x y : Option Fail) → (b ≡ false → x ≡ y) → refuse_if b Opcode x ≡ refuse_if b Opcode y
+            by_case true x y h = refl
+            by_case false x y h = h refl
 
 -- at the two lines a point's instances have one answer, whatever is read at its pc
 pub points_same : ScheduleLaws → (image : FinMap nat_cmp ℕ) (cert : Cert) (id l c : ℕ) (p : Point) (row : Option Instr)
@@ -367,20 +284,17 @@ points_same laws image cert id l c p row found fits inside here there h =
     let plain = is_plain cert p in
     let even = boxes_even cert p l in
     let named = list_all (λ id. has_no_line_there (slice_get cert.points id)) next in
-    let about = and_right (lines_alike cert l) (plain && even) h in
-    let is_plain_p = and_left plain even about in
-    let own = and_left (has_no_line p) named is_plain_p in
+    let about = (and_parts (lines_alike cert l) (plain && even) h).1 in
+    let is_plain_p = (and_parts plain even about).0 in
+    let own = (and_parts (has_no_line p) named is_plain_p).0 in
     let all : AllAlike cert l next =
     both_of_all (λ id. has_no_line_there (slice_get cert.points id)) (λ id. is_even s l (slice_get cert.points id)) next
-    (and_right (has_no_line p) named is_plain_p) (and_right plain even about) in
-    let same = alike_of laws cert l fits inside (and_left (lines_alike cert l) (plain && even) h) in
+    (and_parts (has_no_line p) named is_plain_p).1 (and_parts plain even about).1 in
+    let same = alike_of laws cert l fits inside (and_parts (lines_alike cert l) (plain && even) h).0 in
     ap (local_fail image cert next p.split row) (by_number cert id l c p found)
-    ∙ (rows_same image cert next p.split row l same all (instance_in s p l c) (instance_is_at s p l c)
+    ∙ (rows_same cert l same next p.split all image row (instance_in s p l c) (instance_is_at s p l c)
     ∙ (ap (local_fail image cert next p.split row) (sym (instance_moves s p l m c own (here ∙ sym there) same.first))
     ∙ ap (local_fail image cert next p.split row) (sym (by_number cert id m c p found))))
-
-same_some : {A : Type 0} (o : Option A) (a b : A) → o ≡ Some a → o ≡ Some b → a ≡ b
-same_some o a b e f = cc
 
 pub folding_law : ScheduleLaws → FoldingLaw
 folding_law laws image cert id l c p why fits found inside here there h =
@@ -388,7 +302,7 @@ folding_law laws image cert id l c p why fits found inside here there h =
     let same : (q : Point) (row : Option Instr) → slice_get cert.points id ≡ Some q → local_fail image cert q.next.items q.split row
     (instance_at cert id l c) ≡ local_fail image cert q.next.items q.split row (instance_at cert id m c) =
     λ q row e. subst (λ x. local_fail image cert x.next.items x.split row (instance_at cert id l c) ≡ local_fail image cert x.next.items
-    x.split row (instance_at cert id m c)) (same_some (slice_get cert.points id) p q found e)
+    x.split row (instance_at cert id m c)) (same_Some p q (sym found ∙ e))
     (points_same laws image cert id l c p row found fits inside here there h) in (
       λ a. record { point = a.point; is_point = a.is_point; row = a.row; reads = a.reads; is = a.is ∙ same a.point a.row a.is_point },
       λ a. record { point = a.point; is_point = a.is_point; row = a.row; reads = a.reads; is = a.is ∙ sym (same a.point a.row a.is_point) },

@@ -1,19 +1,11 @@
 -- The lines of a picture whose events are a steady schedule's.
-use Rattle.std.proofs.Common.{◌≡◌, ◌≢◌, ◌⊎◌, inl, inr, All, ℕ, zero, suc, ◌+◌, ◌-◌, ◌%◌, ◌<◌, true, false, cond, List, [], ◌∷◌, length}
-use Rattle.std.proofs.Common.{refl, sym, ◌∙◌, ap, subst, arith}
-use Rattle.std.specs.Prelude.{Some, slice_index, get_or, ◌==◌}
+use Rattle.uz_check.proofs.Common.{◌≡◌, ◌≢◌, ◌⊎◌, inl, inr, All, ℕ, zero, suc, ◌+◌, ◌-◌, ◌%◌, ◌<◌, true, false, cond, List, [], ◌∷◌, length}
+use Rattle.uz_check.proofs.Common.{refl, sym, ◌∙◌, ap, subst, arith, Some, slice_index, get_or, ◌==◌, eqb_tells, leb_tells, All-get_or}
+use Rattle.uz_check.proofs.Common.{All-head, All-tail, slice_get-get_or, ScheduleFits, Event, EventKind, Sync, Schedule, At, event_at}
+use Rattle.uz_check.proofs.Common.{event_in, event_in_kind, events_of, frame_of, length_of, next_line, start_of, IsSteady, IsSteadyLine}
+use Rattle.uz_check.proofs.LevelFound.{first_event}
 use Rattle.std.proofs.Math.Nat.{mod-mod}
-use Rattle.std.proofs.lemmas.Bool.Decides.{eqb_tells, leb_tells}
-use Rattle.std.proofs.lemmas.List.Elements.{All-get_or, All-head, All-tail}
-use Rattle.std.proofs.lemmas.Option.{slice_get-get_or}
-use Rattle.uz_schedule.specs.Limits.{ScheduleFits}
-use Rattle.uz_schedule.specs.declared.lines.Event.{Event}
-use Rattle.uz_schedule.specs.declared.lines.EventKind.{EventKind}
-use Rattle.uz_schedule.specs.declared.lines.EventKind.TheVariants.{Sync}
-use Rattle.uz_schedule.specs.declared.lines.Schedule.{Schedule}
-use Rattle.uz_schedule.specs.Schedule.{At, event_at, event_from, event_in, event_in_kind, events_of, frame_of, length_of, next_line}
-use Rattle.uz_schedule.specs.Schedule.{start_of}
-use Rattle.uz_check.specs.Steady.{IsSteady, IsSteadyLine}
+use Rattle.uz_schedule.specs.Schedule.{event_from}
 
 -- What a schedule says of places
 pub record PlaceLaws (s : Schedule) : Type 0 where
@@ -48,14 +40,6 @@ in_line fall events k h is = by_test (eqb_tells h.first.clock k) (ap (λ es. eve
     by_test (inl t) e = sym t.1 ∙ h.clock
     by_test (inr t) e = absurd (never_in h.later k h.once (ap (λ b. cond b (Some h.first.kind) (event_in h.later k)) (sym t.0) ∙ e))
 
-at_fall : (fall : ℕ) (events : List Event) → IsSteadyLine fall events → event_in events fall ≡ Some (Sync 0)
-at_fall fall events h = ap (λ es. event_in es fall) h.is ∙ by_test (eqb_tells h.first.clock fall)
-  where
-    by_test : ((h.first.clock == fall) ≡ true) × (h.first.clock ≡ fall) ⊎ ((h.first.clock == fall) ≡ false) × (h.first.clock ≢ fall)
-        → event_in (h.first ∷ h.later) fall ≡ Some (Sync 0)
-    by_test (inl t) = ap (λ b. cond b (Some h.first.kind) (event_in h.later fall)) t.0 ∙ ap (λ k. Some k) h.kind
-    by_test (inr t) = absurd (t.1 h.clock)
-
 module _ (s : Schedule) (laws : PlaceLaws s) (fits : ScheduleFits s) (steady : IsSteady s) where
   -- the events of a line
   record HasEvents (l : ℕ) : Type 0 where
@@ -78,7 +62,7 @@ module _ (s : Schedule) (laws : PlaceLaws s) (fits : ScheduleFits s) (steady : I
   line_has_fall : (l : ℕ) → l < length s.lines → event_in_kind (events_of s l) s.fall ≡ Some (Sync 0)
   line_has_fall l below =
       let here = events_here l below in
-      ap (λ o. event_in_kind o s.fall) here.is ∙ at_fall s.fall here.events here.line
+      ap (λ o. event_in_kind o s.fall) here.is ∙ first_event s.fall here.events here.line
 
   next_below : (l : ℕ) → l < length s.lines → next_line s l < length s.lines
   next_below l below =

@@ -1,87 +1,41 @@
 -- What the local rule gives of an instance that it doesn't refuse.
-use Rattle.std.proofs.Common.{◌≡◌, ◌⊎◌, inl, inr, Contains, ℕ, zero, suc, ◌+◌, ◌-◌, ◌%◌, ◌≤◌, Bool, true, false, cond, List, [], ◌∷◌, refl}
-use Rattle.std.proofs.Common.{sym, ◌∙◌, ap, subst, arith}
-use Rattle.std.specs.Prelude.{Option, Some, None, Result, Ok, Err, is_none, not, nat_eq, ◌&&◌, ◌||◌, slice_get}
-use Rattle.std.specs.Ordering.{nat_cmp}
-use Rattle.std.specs.FinMap.{FinMap}
-use Rattle.std.proofs.lemmas.List.{append-nil}
-use Rattle.uz_hex.specs.Cells.{word_of}
-use Rattle.avr_table.specs.declared.Instr.{Instr}
-use Rattle.avr_table.specs.Rows.{Reads}
-use Rattle.avr_decode.specs.Decoded.{Decoded}
-use Rattle.avr_decode.proofs.Unique.{unique}
-use Rattle.uz_core.specs.Effects.{effect_of}
-use Rattle.uz_schedule.specs.Instances.{instance_in, instance_at}
-use Rattle.uz_schedule.specs.Lines.{order_of}
-use Rattle.uz_schedule.specs.Schedule.{event_at}
-use Rattle.uz_schedule.specs.declared.kinds.Kind.{Kind}
-use Rattle.uz_schedule.specs.declared.kinds.Kind.TheVariants.{Main, Handler, Alone}
-use Rattle.uz_schedule.specs.declared.lines.EventKind.{EventKind}
-use Rattle.uz_schedule.specs.declared.lines.EventKind.TheVariants.{Sync, Pixel, Sound, Leave}
-use Rattle.uz_schedule.specs.declared.states.Rest.{Rest}
-use Rattle.uz_schedule.specs.declared.states.Point.{Point}
-use Rattle.uz_schedule.specs.declared.states.Instance.{Instance}
-use Rattle.uz_schedule.specs.declared.certificate.Cert.{Cert}
-use Rattle.uz_rules.specs.Events.{shown_at, listed}
-use Rattle.uz_transfer.specs.declared.fail.Fail.{Fail}
-use Rattle.uz_transfer.specs.declared.fail.Fail.TheVariants as fail
-use Rattle.uz_transfer.specs.declared.step.Exit.{Exit}
-use Rattle.uz_transfer.specs.declared.step.Step.{Step}
-use Rattle.uz_transfer.specs.Kinds.{is_main}
-use Rattle.uz_transfer.specs.Emission.{main_emits}
-use Rattle.uz_transfer.specs.Narrowed.{narrowed}
-use Rattle.uz_transfer.specs.Refusals.{refuse_if}
-use Rattle.uz_transfer.specs.Step.{IsReadAt, IsStep, step_of_row, successor}
-use Rattle.uz_rules.specs.Inside.{cells_inside, restored}
-use Rattle.uz_rules.specs.EdgeRule.{position_of, is_kind, is_event, is_quiet, emits_as_scheduled, edges_fit}
-use Rattle.uz_transfer.specs.Exits.{each_exit}
-use Rattle.uz_rules.specs.Successors.{lies_in_point, lies_in_any, LiesInPoint}
-use Rattle.uz_rules.specs.Local.{is_no_opcode, row_emits_in_main, rest_in, return_fail, first_exit, end_of, has_successors, compares_edges, passes}
-use Rattle.uz_rules.specs.Local.{step_fail, instance_fail, IsLocal}
-use Rattle.uz_check.specs.Claim.{scheduled}
+use Rattle.uz_check.proofs.Common.{same_Some, not-false, or_cases, eqb-true, and_parts, ◌≡◌, inl, inr, Contains, ℕ, zero, suc, ◌+◌, ◌-◌}
+use Rattle.uz_check.proofs.Common.{◌%◌, ◌≤◌, Bool, true, false, cond, List, [], ◌∷◌, refl, sym, ◌∙◌, ap, subst, arith, Option, Some, None}
+use Rattle.uz_check.proofs.Common.{Result, Ok, Err, is_none, not, nat_eq, slice_get, nat_cmp, FinMap, append-nil, word_of, Instr, Reads}
+use Rattle.uz_check.proofs.Common.{Decoded, unique, effect_of, instance_in, instance_at, order_of, event_at, Kind, Main, Handler, Alone}
+use Rattle.uz_check.proofs.Common.{EventKind, Sync, Rest, Point, Instance, Cert, shown_at, listed, Fail, Exit, Step, is_main, main_emits}
+use Rattle.uz_check.proofs.Common.{narrowed, refuse_if, IsReadAt, IsStep, step_of_row, successor, cells_inside, restored, position_of}
+use Rattle.uz_check.proofs.Common.{is_kind, is_event, is_quiet, emits_as_scheduled, edges_fit, each_exit, lies_in_point, lies_in_any}
+use Rattle.uz_check.proofs.Common.{LiesInPoint, is_no_opcode, row_emits_in_main, rest_in, return_fail, first_exit, end_of, has_successors}
+use Rattle.uz_check.proofs.Common.{compares_edges, passes, step_fail, instance_fail, IsLocal, scheduled}
+use Rattle.uz_schedule.specs.declared.lines.EventKind.TheVariants.{Pixel, Sound, Leave}
 use Rattle.uz_check.proofs.Premises.{IsCovered, EdgeHolds, Succeeds, LocalHolds}
 use Rattle.uz_check.proofs.Steps.{scheduled-+}
-use Rattle.uz_check.proofs.Fitting.{and_true, opened, of_point}
-use Rattle.uz_check.proofs.BoxesCovered.{number_tells}
+use Rattle.uz_check.proofs.Fitting.{opened, of_point}
 use Rattle.uz_check.proofs.Returns.{return_tells, handler_returns}
+use Rattle.uz_transfer.specs.declared.fail.Fail.TheVariants as fail
 
 -- Tests that refuse nothing
 
-unrefused : (b : Bool) (why : Fail) (later : Option Fail) → None ≡ refuse_if b why later → (b ≡ false) × (None ≡ later)
+pub unrefused : (b : Bool) (why : Fail) (later : Option Fail) → None ≡ refuse_if b why later → (b ≡ false) × (None ≡ later)
 unrefused true why later e = absurd cc
 unrefused false why later e = (refl, e)
 
-not_false : (b : Bool) → not b ≡ false → b ≡ true
-not_false true e = refl
-not_false false e = absurd cc
-
 -- Events
 
-kind_tells : (a b : EventKind) → is_kind a b ≡ true → a ≡ b
-kind_tells (Sync a) (Sync b) e = ap Sync (number_tells a b e)
+pub kind_tells : (a b : EventKind) → is_kind a b ≡ true → a ≡ b
+kind_tells (Sync a) (Sync b) e = ap Sync (eqb-true a b e)
 kind_tells Pixel Pixel e = refl
 kind_tells Sound Sound e = refl
 kind_tells Leave Leave e = refl
-kind_tells (Sync a) Pixel e = absurd cc
-kind_tells (Sync a) Sound e = absurd cc
-kind_tells (Sync a) Leave e = absurd cc
-kind_tells Pixel (Sync b) e = absurd cc
-kind_tells Pixel Sound e = absurd cc
-kind_tells Pixel Leave e = absurd cc
-kind_tells Sound (Sync b) e = absurd cc
-kind_tells Sound Pixel e = absurd cc
-kind_tells Sound Leave e = absurd cc
-kind_tells Leave (Sync b) e = absurd cc
-kind_tells Leave Pixel e = absurd cc
-kind_tells Leave Sound e = absurd cc
+kind_tells a b e = absurd cc
 
-event_tells : (a b : Option EventKind) → is_event a b ≡ true → a ≡ b
+pub event_tells : (a b : Option EventKind) → is_event a b ≡ true → a ≡ b
 event_tells None None e = refl
 event_tells (Some a) (Some b) e = ap (λ k. Some k) (kind_tells a b e)
-event_tells None (Some b) e = absurd cc
-event_tells (Some a) None e = absurd cc
+event_tells a b e = absurd cc
 
-none_tells : (o : Option EventKind) → is_none o ≡ true → o ≡ None
+pub none_tells : (o : Option EventKind) → is_none o ≡ true → o ≡ None
 none_tells None e = refl
 none_tells (Some k) e = absurd cc
 
@@ -90,7 +44,7 @@ quiet_none : (at : ℕ → Option EventKind) (p k n : ℕ) → is_quiet at p n �
 unfolding is_quiet
 quiet_none at p k zero e = refl
 quiet_none at p k (suc n) e =
-    let both = and_true (is_quiet at p n) _ e in
+    let both = and_parts (is_quiet at p n) _ e in
     let before = quiet_none at p k n both.0 in
     let i : suc n ≡ n + 1 = omega arith in
     let here : at (suc (p + n)) ≡ None = ap at (omega arith) ∙ none_tells _ both.1 in
@@ -110,11 +64,12 @@ passed at p k (suc n) some e =
 
 -- Exits
 
-exit_tells : (test : Exit → Bool) (exits : List Exit) (exit : Exit) → each_exit test exits ≡ true → Contains exits exit → test exit ≡ true
+pub exit_tells : (test : Exit → Bool) (exits : List Exit) (exit : Exit) → each_exit test exits ≡ true → Contains exits exit → test exit
+    ≡ true
 exit_tells test [] exit e (i, below, is) = absurd (omega (arith, below))
 exit_tells test (x ∷ exits) exit e (zero, below, is) = let same : x ≡ exit = is in ap test (sym same)
-    ∙ (and_true (test x) (each_exit test exits) e).0
-exit_tells test (x ∷ exits) exit e (suc i, below, is) = exit_tells test exits exit (and_true (test x) (each_exit test exits) e).1
+    ∙ (and_parts (test x) (each_exit test exits) e).0
+exit_tells test (x ∷ exits) exit e (suc i, below, is) = exit_tells test exits exit (and_parts (test x) (each_exit test exits) e).1
     (i, omega (arith, below), is)
 
 exit_scheduled : (cert : Cert) (inst : Instance) (step : Step) → edges_fit cert.schedule (position_of cert.schedule inst) step.emit
@@ -122,7 +77,7 @@ exit_scheduled : (cert : Cert) (inst : Instance) (step : Step) → edges_fit cer
     → scheduled (event_at cert.schedule) (position_of cert.schedule inst) k exit.clocks ≡ listed (shown_at step.emit (k + exit.clocks))
 exit_scheduled cert inst step e exit k has some =
     let p = position_of cert.schedule inst in
-    let both = and_true (is_quiet (event_at cert.schedule) p (exit.clocks - 1)) _
+    let both = and_parts (is_quiet (event_at cert.schedule) p (exit.clocks - 1)) _
     (exit_tells (λ x. emits_as_scheduled cert.schedule p step.emit x.clocks) step.exits.items exit e has) in
     passed (event_at cert.schedule) p k exit.clocks some both.0 ∙ ap (λ o. listed (shown_at o (k + exit.clocks)))
     (event_tells (event_at cert.schedule (p + exit.clocks)) step.emit both.1)
@@ -137,14 +92,11 @@ covered laws cert id inst e =
     let h = laws cert id inst e in
     record { id = id; l = inst.line; c = h.count; inst = h.point_instance; is = h.is; inside = h.inside }
 
-either_true : (a b : Bool) → (a || b) ≡ true → (a ≡ true) ⊎ (b ≡ true)
-either_true true b e = inl refl
-either_true false b e = inr e
-
-pub any_covered : (laws : LiesInPoint) (cert : Cert) (ids : List ℕ) (inst : Instance) → lies_in_any cert ids inst ≡ true → IsCovered cert inst
+pub any_covered : (laws : LiesInPoint) (cert : Cert) (ids : List ℕ) (inst : Instance) → lies_in_any cert ids inst ≡ true
+    → IsCovered cert inst
 any_covered laws cert [] inst e = absurd cc
 any_covered laws cert (id ∷ ids) inst e =
-    elim (either_true (lies_in_point cert id inst) (lies_in_any cert ids inst) e) [
+    elim (or_cases (lies_in_point cert id inst) (lies_in_any cert ids inst) e) [
       | inl here ↦ covered laws cert id inst here
       | inr there ↦ any_covered laws cert ids inst there
     ]
@@ -163,7 +115,7 @@ rest_there (r ∷ rests) line rest e = there_by (nat_eq r.line line) refl (rest_
         (rest_in rests line) ≡ Some rest → RestThere (r ∷ rests) line rest
     there_by true p later f =
         let same : r ≡ rest = cc in
-        record { has = (zero, omega arith, same); line_is = sym (number_tells r.line line p) ∙ ap (λ (x : Rest). x.line) same }
+        record { has = (zero, omega arith, same); line_is = sym (eqb-true r.line line p) ∙ ap (λ (x : Rest). x.line) same }
     there_by false p later f =
         let h = later f in
         record { has = (suc h.has.0, omega (arith, h.has.1), h.has.2); line_is = h.line_is }
@@ -183,12 +135,12 @@ return_told cert end (Some rest) is e =
     let there = rest_there cert.rests end.line rest is in
     let clock = unrefused _ _ _ e in
     let back = unrefused _ _ _ clock.1 in
-    let both = and_true (restored end) (cells_inside end.cells.items rest.cells.items) (not_false _ back.0) in
+    let both = and_parts (restored end) (cells_inside end.cells.items rest.cells.items) (not-false _ back.0) in
     record {
       rest = rest;
       has = there.has;
       line = there.line_is;
-      clock = number_tells end.clock rest.clock (not_false _ clock.0);
+      clock = eqb-true end.clock rest.clock (not-false _ clock.0);
       restored = both.0;
       cells = both.1;
     }
@@ -214,7 +166,7 @@ result_tells image cert next split inst step is true back e =
       cells = told.cells;
     }
 result_tells image cert next split inst step is false back e =
-    let all = not_false _ (unrefused _ _ _ e).0 in
+    let all = not-false _ (unrefused _ _ _ e).0 in
     λ exit has. exit_tells (λ x. passes cert next split (narrowed step.test x (successor (order_of cert.schedule) inst step x)))
     step.exits.items exit all has
 
@@ -222,12 +174,8 @@ main_silent : (row : Option Instr) (inst : Instance) (i : Instr) (first second :
     inst ≡ false → (row ≡ None → ⊥) → ((j : Instr) → row ≡ Some j → i ≡ j) → main_emits (effect_of i) inst ≡ false
 main_silent None inst i first second kind e some same = absurd (some refl)
 main_silent (Some j) inst i first second kind e some same =
-    let silent : main_emits (effect_of j) inst ≡ false = drop_true (is_main inst.kind) (main_emits (effect_of j) inst) kind e in
+    let silent : main_emits (effect_of j) inst ≡ false = rw kind at e in
     ap (λ k. main_emits (effect_of k) inst) (same j refl) ∙ silent
-  where
-    drop_true : (a b : Bool) → a ≡ true → (a && b) ≡ false → b ≡ false
-    drop_true true b e f = f
-    drop_true false b e f = absurd cc
 
 reads_tell : (first second : ℕ) (row : Option Instr) (i : Instr) → Decoded first second row → Reads first second i → (j : Instr)
     → row ≡ Some j → i ≡ j
@@ -265,7 +213,7 @@ step_tells image cert next split row inst (Ok step) reads opcode is e =
     record {
       step = step;
       step_is = step_is;
-      edge = edge_tells image cert row inst step reads opcode silent.0 (not_false _ compares.0) inst.kind refl;
+      edge = edge_tells image cert row inst step reads opcode silent.0 (not-false _ compares.0) inst.kind refl;
       next = next;
       split = split;
       successor = result_tells image cert next split inst step step_is step.back refl compares.1;
@@ -278,10 +226,7 @@ local_tells image cert id l c inst h e =
     let fails : None ≡ instance_fail image cert h.point.next.items h.point.split h.row (Some inst) = opcode.1
     ∙ ap (instance_fail image cert h.point.next.items h.point.split h.row) e in
     let at = opened (λ p. instance_in cert.schedule p l c) (slice_get cert.points id) inst e in
-    let same : at.0 ≡ h.point = same_some (slice_get cert.points id) at.0 h.point at.1 h.is_point in
+    let same : at.0 ≡ h.point = same_Some at.0 h.point (sym at.1 ∙ h.is_point) in
     let pc : h.point.pc ≡ inst.pc = ap (λ (p : Point). p.pc) (sym same) ∙ ap (λ (i : Instance). i.pc)
     (of_point cert at.0 l c inst at.2).is in
     step_tells image cert h.point.next.items h.point.split h.row inst _ (subst (λ k. IsReadAt image k h.row) pc h.reads) opcode.0 refl fails
-  where
-    same_some : (o : Option Point) (a b : Point) → o ≡ Some a → o ≡ Some b → a ≡ b
-    same_some o a b e f = cc

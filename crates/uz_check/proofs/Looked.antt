@@ -1,39 +1,18 @@
 -- The lines of a point that aren't looked at: they pass where the lines before them do, and don't count.
-use Rattle.std.proofs.Common.{◌≡◌, inl, inr, ℕ, zero, suc, ◌+◌, ◌-◌, ◌*◌, ◌<◌, ◌≤◌, true, false, nat_lt, length, refl, sym, ◌∙◌, ap, subst}
-use Rattle.std.proofs.Common.{arith}
-use Rattle.std.specs.Prelude.{Some, None, slice_get}
-use Rattle.std.specs.Ordering.{nat_cmp}
-use Rattle.std.specs.FinMap.{FinMap}
-use Rattle.std.proofs.lemmas.Bool.Decides.{eqb_tells, leb_tells, nat_tests}
-use Rattle.uz_schedule.specs.Limits.{ScheduleFits}
-use Rattle.uz_schedule.specs.Schedule.{next_line}
-use Rattle.uz_schedule.specs.declared.lines.Schedule.{Schedule}
-use Rattle.uz_schedule.specs.declared.states.Point.{Point}
-use Rattle.uz_schedule.specs.declared.certificate.Cert.{Cert}
-use Rattle.uz_rules.specs.Local.{IsLocal}
-use Rattle.uz_check.specs.Folding.{is_on_line, folds, FoldingLaw}
-use Rattle.uz_check.specs.Untold.{is_told, untold_lines, untold_of}
-use Rattle.uz_check.specs.Refusal.{Why, InstanceRefusal, LineRefusal, PointRefusal}
-use Rattle.uz_check.proofs.SteadyTold.{and_true}
+use Rattle.uz_check.proofs.Common.{add-suc, add-zero, and_parts, ◌≡◌, inl, inr, ℕ, zero, suc, ◌+◌, ◌-◌, ◌*◌, ◌<◌, ◌≤◌, true, false, nat_lt}
+use Rattle.uz_check.proofs.Common.{length, refl, sym, ◌∙◌, ap, subst, arith, Some, None, slice_get, nat_cmp, FinMap, leb_tells, nat_tests}
+use Rattle.uz_check.proofs.Common.{ScheduleFits, next_line, Point, Cert, IsLocal, is_on_line, folds, FoldingLaw, is_implied, lines_to_check}
+use Rattle.uz_check.proofs.Common.{instances_to_check_of, Why, InstanceRefusal, LineRefusal, PointRefusal}
+use Rattle.uz_check.proofs.Covered.{next_is, on_line}
 
-next_is : (s : Schedule) (l : ℕ) → suc l < length s.lines → next_line s l ≡ suc l
-next_is s l h =
-    elim (eqb_tells (suc l) (length s.lines)) [
-      | inl t ↦ absurd (omega (arith, h, t.1))
-      | inr t ↦ rw t.0 refl
-    ]
-
-on_line : (p : Point) (l : ℕ) → p.l0 ≤ l → l ≤ p.l1 → is_on_line p l ≡ true
-on_line p l h g = grind (arith, nat_tests)
-
--- What is told passes
+-- What is implied passes
 
 instance_passes : FoldingLaw → (image : FinMap nat_cmp ℕ) (cert : Cert) (id l c : ℕ) (p : Point) → ScheduleFits cert.schedule
-    → slice_get cert.points id ≡ Some p → p.l1 < length cert.schedule.lines → suc l ≤ p.l1 → is_told cert p (suc l) ≡ true
+    → slice_get cert.points id ≡ Some p → p.l1 < length cert.schedule.lines → suc l ≤ p.l1 → is_implied cert p (suc l) ≡ true
     → InstanceRefusal image cert id l c None → InstanceRefusal image cert id (suc l) c None
 unfolding InstanceRefusal
 instance_passes law image cert id l c p fits found inside within told passes =
-    let both = and_true (nat_lt p.l0 (suc l)) (folds cert p (suc l - 1)) told in
+    let both = and_parts (nat_lt p.l0 (suc l)) (folds cert p (suc l - 1)) told in
     let after : p.l0 ≤ l = grind (arith, nat_tests, both.0) in
     let back : suc l - 1 ≡ l = omega arith in
     let next = next_is cert.schedule l (omega (arith, within, inside)) in
@@ -44,33 +23,34 @@ instance_passes law image cert id l c p fits found inside within told passes =
     subst (λ n. IsLocal image cert id n c None) next (same.0 passes)
 
 line_passes : FoldingLaw → (image : FinMap nat_cmp ℕ) (cert : Cert) (id l : ℕ) (p : Point) → ScheduleFits cert.schedule
-    → slice_get cert.points id ≡ Some p → p.l1 < length cert.schedule.lines → suc l ≤ p.l1 → is_told cert p (suc l) ≡ true
+    → slice_get cert.points id ≡ Some p → p.l1 < length cert.schedule.lines → suc l ≤ p.l1 → is_implied cert p (suc l) ≡ true
     → LineRefusal image cert id p l None → LineRefusal image cert id p (suc l) None
 unfolding LineRefusal
 line_passes law image cert id l p fits found inside within told passes c low high = instance_passes law image cert id l c p fits found
     inside within
     told (passes c low high)
 
--- where line l passes, so do those after it that are told
-pub told_pass : FoldingLaw → (image : FinMap nat_cmp ℕ) (cert : Cert) (id l n : ℕ) (p : Point) → ScheduleFits cert.schedule
+-- where line l passes, so do those after it that are implied
+pub implied_pass : FoldingLaw → (image : FinMap nat_cmp ℕ) (cert : Cert) (id l n : ℕ) (p : Point) → ScheduleFits cert.schedule
     → slice_get cert.points id ≡ Some p → p.l1 < length cert.schedule.lines → l + n ≤ p.l1
-    → ((k : ℕ) → suc l ≤ k → k ≤ l + n → is_told cert p k ≡ true) → LineRefusal image cert id p l None → LineRefusal image cert id p (l + n)
+    → ((k : ℕ) → suc l ≤ k → k ≤ l + n → is_implied cert p k ≡ true) → LineRefusal image cert id p l None
+    → LineRefusal image cert id p (l + n)
     None
-told_pass law image cert id l zero p fits found inside within told passes =
+implied_pass law image cert id l zero p fits found inside within told passes =
     let same : l ≡ l + zero = omega arith in
     subst (λ k. LineRefusal image cert id p k None) same passes
-told_pass law image cert id l (suc n) p fits found inside within told passes =
-    let before = told_pass law image cert id l n p fits found inside (omega (arith, within)) (λ k low high. told k low (omega
+implied_pass law image cert id l (suc n) p fits found inside within told passes =
+    let before = implied_pass law image cert id l n p fits found inside (omega (arith, within)) (λ k low high. told k low (omega
     (arith, high)))
     passes in
     let on : suc (l + n) ≡ l + suc n = omega arith in
     subst (λ k. LineRefusal image cert id p k None) on (line_passes law image cert id (l + n) p fits found inside (omega (arith, within))
     (told (suc (l + n)) (omega arith) (omega arith)) before)
 
--- the lines up to the next one that isn't told
+-- the lines up to the next one that isn't implied
 pub lines_more : FoldingLaw → (image : FinMap nat_cmp ℕ) (cert : Cert) (id l next : ℕ) (p : Point) → ScheduleFits cert.schedule
     → slice_get cert.points id ≡ Some p → p.l1 < length cert.schedule.lines → next ≤ suc p.l1 → ((k : ℕ) → l + 1 ≤ k → k < next
-    → is_told cert p k ≡ true)
+    → is_implied cert p k ≡ true)
     → ((j : ℕ) → p.l0 ≤ j → j < l → LineRefusal image cert id p j None) → LineRefusal image cert id p l None → (j : ℕ) → p.l0 ≤ j → j < next
     → LineRefusal image cert id p j None
 lines_more law image cert id l next p fits found inside within told before now j low high =
@@ -78,60 +58,55 @@ lines_more law image cert id l next p fits found inside within told before now j
       | inl t ↦
           let on : l + (j - l) ≡ j = omega (arith, t.1) in
           subst (λ k. LineRefusal image cert id p k None) on
-          (told_pass law image cert id l (j - l) p fits found inside (omega (arith, t.1, high, within))
+          (implied_pass law image cert id l (j - l) p fits found inside (omega (arith, t.1, high, within))
           (λ k a b. told k (omega (arith, a)) (omega (arith, b, t.1, high))) now)
       | inr t ↦ before j low (omega (arith, t.1))
     ]
 
--- What is told doesn't count
+-- What is implied doesn't count
 
-told_more : (cert : Cert) (p : Point) (n : ℕ) → is_told cert p (p.l0 + n) ≡ true → untold_lines cert p (suc n) ≡ untold_lines cert p n
-told_more cert p n h = rw h (omega arith)
+implied_more : (cert : Cert) (p : Point) (n : ℕ) → is_implied cert p (p.l0 + n) ≡ true → lines_to_check cert p (suc n)
+    ≡ lines_to_check cert p n
+implied_more cert p n h = rw h (omega arith)
 
-untold_more : (cert : Cert) (p : Point) (n : ℕ) → is_told cert p (p.l0 + n) ≡ false → untold_lines cert p (suc n) ≡ suc
-    (untold_lines cert p n)
-untold_more cert p n h = rw h (omega arith)
+more_to_check : (cert : Cert) (p : Point) (n : ℕ) → is_implied cert p (p.l0 + n) ≡ false → lines_to_check cert p (suc n) ≡ suc
+    (lines_to_check cert p n)
+more_to_check cert p n h = rw h (omega arith)
 
-told_lines : (cert : Cert) (p : Point) (n k : ℕ) → ((j : ℕ) → p.l0 + n ≤ j → j < p.l0 + (n + k) → is_told cert p j ≡ true)
-    → untold_lines cert p (n + k) ≡ untold_lines cert p n
-told_lines cert p n zero told = ap (untold_lines cert p) (omega arith)
-told_lines cert p n (suc k) told =
+implied_alone : (cert : Cert) (p : Point) (n k : ℕ) → ((j : ℕ) → p.l0 + n ≤ j → j < p.l0 + (n + k) → is_implied cert p j ≡ true)
+    → lines_to_check cert p (n + k) ≡ lines_to_check cert p n
+implied_alone cert p n zero told = ap (lines_to_check cert p) (omega arith)
+implied_alone cert p n (suc k) told =
     let on : n + suc k ≡ suc (n + k) = omega arith in
-    ap (untold_lines cert p) on
-    ∙ (told_more cert p (n + k) (told (p.l0 + (n + k)) (omega arith) (omega arith)) ∙ told_lines cert p n k
+    ap (lines_to_check cert p) on
+    ∙ (implied_more cert p (n + k) (told (p.l0 + (n + k)) (omega arith) (omega arith)) ∙ implied_alone cert p n k
     (λ j low high. told j low (omega (arith, high))))
 
--- one line that isn't told, and those that it tells of
-pub one_more_line : (cert : Cert) (p : Point) (l next w : ℕ) → p.l0 ≤ l → l + 1 ≤ next → is_told cert p l ≡ false
-    → ((k : ℕ) → l + 1 ≤ k → k < next → is_told cert p k ≡ true)
-    → untold_lines cert p (next - p.l0) * w ≡ untold_lines cert p (l - p.l0) * w + w
+-- one line that isn't implied, and those that it implies
+pub one_more_line : (cert : Cert) (p : Point) (l next w : ℕ) → p.l0 ≤ l → l + 1 ≤ next → is_implied cert p l ≡ false
+    → ((k : ℕ) → l + 1 ≤ k → k < next → is_implied cert p k ≡ true)
+    → lines_to_check cert p (next - p.l0) * w ≡ lines_to_check cert p (l - p.l0) * w + w
 one_more_line cert p l next w low on h told =
     let n = l - p.l0 in
     let at : p.l0 + n ≡ l = omega (arith, low) in
     let parts : next - p.l0 ≡ suc n + (next - (l + 1)) = omega (arith, low, on) in
-    let rest : untold_lines cert p (suc n + (next - (l + 1))) ≡ untold_lines cert p (suc n) =
-    told_lines cert p (suc n) (next - (l + 1)) (λ k a b. told k (omega (arith, a, at)) (omega (arith, b, at, on))) in
-    let one : untold_lines cert p (suc n) ≡ suc (untold_lines cert p n) = untold_more cert p n (ap (is_told cert p) at ∙ h) in
-    ap (λ k. k * w) (ap (untold_lines cert p) parts ∙ (rest ∙ one)) ∙ suc_times (untold_lines cert p n) w
+    let rest : lines_to_check cert p (suc n + (next - (l + 1))) ≡ lines_to_check cert p (suc n) =
+    implied_alone cert p (suc n) (next - (l + 1)) (λ k a b. told k (omega (arith, a, at)) (omega (arith, b, at, on))) in
+    let one : lines_to_check cert p (suc n) ≡ suc (lines_to_check cert p n) = more_to_check cert p n (ap (is_implied cert p) at ∙ h) in
+    ap (λ k. k * w) (ap (lines_to_check cert p) parts ∙ (rest ∙ one)) ∙ suc_times (lines_to_check cert p n) w
   where
     suc_times : (a w : ℕ) → suc a * w ≡ a * w + w
     suc_times a w = grind arith
 
-untold_grows : (cert : Cert) (p : Point) (n m : ℕ) → untold_lines cert p n ≤ untold_lines cert p (n + m)
-untold_grows cert p n zero =
-    let same = ap (untold_lines cert p) (plus_zero n) in
+to_check_grows : (cert : Cert) (p : Point) (n m : ℕ) → lines_to_check cert p n ≤ lines_to_check cert p (n + m)
+to_check_grows cert p n zero =
+    let same = ap (lines_to_check cert p) (add-zero n) in
     omega (arith, same)
-  where
-    plus_zero : (n : ℕ) → n + 0 ≡ n
-    plus_zero n = omega arith
-untold_grows cert p n (suc m) =
-    let more = untold_grows cert p n m in
-    let same = ap (untold_lines cert p) (plus_suc n m) in
-    let step : untold_lines cert p (n + m) ≤ untold_lines cert p (suc (n + m)) = omega arith in
+to_check_grows cert p n (suc m) =
+    let more = to_check_grows cert p n m in
+    let same = ap (lines_to_check cert p) (add-suc n m) in
+    let step : lines_to_check cert p (n + m) ≤ lines_to_check cert p (suc (n + m)) = omega arith in
     omega (arith, more, same, step)
-  where
-    plus_suc : (n m : ℕ) → n + suc m ≡ suc (n + m)
-    plus_suc n m = omega arith
 
 times_more : (a b w : ℕ) → a ≤ b → a * w ≤ b * w
 times_more a b zero h = omega arith
@@ -141,20 +116,20 @@ times_more a b (suc w) h =
     let right : b * suc w ≡ b * w + b = grind arith in
     omega (arith, less, left, right, h)
 
--- a line of the box that isn't told, with those before it, is part of the whole box
-pub line_of_box : (cert : Cert) (p : Point) (l w : ℕ) → p.l0 ≤ l → l ≤ p.l1 → is_told cert p l ≡ false → untold_lines cert p
-    (l - p.l0) * w + w ≤ untold_lines cert p (suc p.l1 - p.l0) * w
+-- a line of the box that isn't implied, with those before it, is part of the whole box
+pub line_of_box : (cert : Cert) (p : Point) (l w : ℕ) → p.l0 ≤ l → l ≤ p.l1 → is_implied cert p l ≡ false → lines_to_check cert p
+    (l - p.l0) * w + w ≤ lines_to_check cert p (suc p.l1 - p.l0) * w
 line_of_box cert p l w low high h =
     let here = one_more_line cert p l (l + 1) w low (omega arith) h (λ k a b. absurd (omega (arith, a, b))) in
     let parts : (l + 1 - p.l0) + (p.l1 - l) ≡ suc p.l1 - p.l0 = omega (arith, low, high) in
-    let grows = untold_grows cert p (l + 1 - p.l0) (p.l1 - l) in
-    let all = times_more (untold_lines cert p (l + 1 - p.l0)) (untold_lines cert p (suc p.l1 - p.l0)) w
-    (subst (λ k. untold_lines cert p (l + 1 - p.l0) ≤ untold_lines cert p k) parts grows) in
+    let grows = to_check_grows cert p (l + 1 - p.l0) (p.l1 - l) in
+    let all = times_more (lines_to_check cert p (l + 1 - p.l0)) (lines_to_check cert p (suc p.l1 - p.l0)) w
+    (subst (λ k. lines_to_check cert p (l + 1 - p.l0) ≤ lines_to_check cert p k) parts grows) in
     omega (arith, here, all)
 
--- the first line of a box isn't told
-pub first_untold : (cert : Cert) (p : Point) → is_told cert p p.l0 ≡ false
-first_untold cert p =
+-- the first line of a box isn't implied
+pub first_not_implied : (cert : Cert) (p : Point) → is_implied cert p p.l0 ≡ false
+first_not_implied cert p =
     let no : nat_lt p.l0 p.l0 ≡ false = grind (arith, nat_tests) in
     rw no refl
 
@@ -169,7 +144,7 @@ one_line_refusal image cert id p (Some why) same line =
     (p.l0, omega arith, omega (arith, same), line, λ j low high. absurd (omega (arith, low, high)))
 
 pub one_line_looked : (cert : Cert) (p : Point) (seen looked : ℕ) → p.l0 ≡ p.l1 → looked ≤ seen + (suc p.c1 - p.c0)
-    → looked ≤ seen + untold_of cert p
+    → looked ≤ seen + instances_to_check_of cert p
 one_line_looked cert p seen looked same few =
-    let part = line_of_box cert p p.l0 (suc p.c1 - p.c0) (omega arith) (omega (arith, same)) (first_untold cert p) in
+    let part = line_of_box cert p p.l0 (suc p.c1 - p.c0) (omega arith) (omega (arith, same)) (first_not_implied cert p) in
     omega (arith, part, few)

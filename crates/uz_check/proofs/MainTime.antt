@@ -1,30 +1,14 @@
 -- Entries and returns alternate, and main's time between them.
-use Rattle.std.proofs.Common.{◌≡◌, ◌⊎◌, inl, inr, All, Contains, ℕ, zero, suc, ◌+◌, Bool, true, false, List, [], ◌∷◌, ◌++◌, refl, sym, ◌∙◌}
-use Rattle.std.proofs.Common.{ap, subst, arith}
-use Rattle.std.specs.Prelude.{⊤}
-use Rattle.std.specs.Ordering.{nat_cmp}
-use Rattle.std.specs.FinMap.{FinMap}
+use Rattle.uz_check.proofs.Common.{both_ways, ◌≡◌, ◌⊎◌, inl, inr, All, Contains, ℕ, zero, suc, ◌+◌, true, false, List, [], ◌∷◌, ◌++◌, refl}
+use Rattle.uz_check.proofs.Common.{sym, ◌∙◌, ap, subst, arith, ⊤, nat_cmp, FinMap, All-tail, Kind, Rest, Instance, Cert, At, length_of}
+use Rattle.uz_check.proofs.Common.{Edge, EdgeKind, Enter, bit_is_set, Core, PadHistory, history_wiring, State, Turn, Run, Begins, is_main}
+use Rattle.uz_check.proofs.Common.{Running, RunsAlone, RunsMain, RunsHandler, Runs, Invariant, IsPlain, Spends, Goes, EveryTurnGoes, Pixel}
+use Rattle.uz_check.proofs.Common.{Sound, Leave}
 use Rattle.std.proofs.lemmas.List.{map-append}
-use Rattle.std.proofs.lemmas.List.Elements.{All-tail}
-use Rattle.uz_schedule.specs.declared.kinds.Kind.{Kind}
-use Rattle.uz_schedule.specs.declared.states.Rest.{Rest}
-use Rattle.uz_schedule.specs.declared.states.Instance.{Instance}
-use Rattle.uz_schedule.specs.declared.certificate.Cert.{Cert}
-use Rattle.uz_schedule.specs.Schedule.{At, length_of}
-use Rattle.uz_core.specs.declared.machine.Edge.{Edge}
-use Rattle.uz_core.specs.declared.machine.EdgeKind.{EdgeKind}
-use Rattle.uz_core.specs.declared.machine.EdgeKind.TheVariants.{Sync, Pixel, Sound, Enter, Leave}
-use Rattle.uz_core.specs.Arithmetic.{bit_is_set}
-use Rattle.uz_core.specs.Core.{Core}
-use Rattle.uz_core.specs.PadLine.{PadHistory}
-use Rattle.uz_core.specs.Space.{history_wiring}
-use Rattle.uz_core.specs.Turn.{State, Turn}
-use Rattle.uz_core.specs.Run.{Run}
-use Rattle.uz_console.specs.Entry.{Begins, BeginsMain}
-use Rattle.uz_transfer.specs.Kinds.{is_main}
+use Rattle.uz_core.specs.declared.machine.EdgeKind.TheVariants.{Sync}
+use Rattle.uz_console.specs.Entry.{BeginsMain}
 use Rattle.uz_check.proofs.Premises.{Premises}
-use Rattle.uz_check.specs.Invariant.{Running, RunsAlone, RunsMain, RunsHandler, Runs, Invariant}
-use Rattle.uz_check.specs.Ways.{IsPlain, Spends, Goes, EveryTurnGoes, Phase, InMain, InHandler, ReturnsAt, MainsTime, told, MainsTimeHolds}
+use Rattle.uz_check.specs.Ways.{Phase, InMain, InHandler, ReturnsAt, MainsTime, told, MainsTimeHolds}
 use Rattle.uz_check.proofs.Headline.{every_turn_goes}
 use Rattle.uz_check.proofs.Beginning.{begins_with}
 
@@ -53,16 +37,13 @@ plain_time cert start p phase (e ∷ es) tail h more = one e.clock e.kind (h 0 e
     one clock (Enter t) h more = absurd h
     one clock Leave h more = absurd h
 
-both : (b : Bool) → b ≡ true → b ≡ false → ⊥
-both b e f = absurd cc
-
 -- main goes on
 spent : (cert : Cert) (s next : State PadHistory) (c : ℕ) (rest later : Rest) (i j : Instance) (o q : Core) (phase : Phase)
     → Since cert s (RunsMain i o rest) phase → next.clock ≡ s.clock + c → later ≡ rest → s.space.timer.matched ≡ false
     → Spends (length_of cert.schedule rest.line) s next c → Since cert next (RunsMain j q later) phase
 spent cert s next c rest later i j o q InHandler since clock same clear spends = absurd since
 spent cert s next c rest later i j o q (InMain k line at) (is, inr due) clock same clear spends =
-    absurd (both s.space.timer.matched due.0 clear)
+    absurd (both_ways s.space.timer.matched clear due.0)
 spent cert s next c rest later i j o q (InMain k line at) (is, inl before) clock same clear (inl within) =
     (ap (λ (r : Rest). r.line) same ∙ is, inl (within.0, omega (arith, before.1, clock, within.1)))
 spent cert s next c rest later i j o q (InMain k line at) (is, inl before) clock same clear (inr past) =
@@ -79,39 +60,35 @@ returned cert start p q passed next j o rest clock same runs is_rest count clear
   counted = clock;
   place = elim runs.rests.phase [
     | inl before ↦ subst (λ m. At cert.schedule m rest.line rest.clock) same (subst (At cert.schedule q rest.line) count before.place)
-    | inr due ↦ absurd (both next.space.timer.matched due.set clear)
+    | inr due ↦ absurd (both_ways next.space.timer.matched clear due.set)
   ];
 }
 
-time_step : (cert : Cert) (start p q passed : ℕ) (s next : State PadHistory) (c : ℕ) (now then : Running)
-    (edges : List Edge) (tail : List (ℕ × EdgeKind)) (phase : Phase) → Since cert s now phase → next.clock ≡ s.clock + c
-    → next.clock ≡ start + passed → q ≡ p + passed → Runs cert q next then → Goes cert s next c now then edges
-    → ((later : Phase) → Since cert next then later → MainsTime cert start p later tail) → MainsTime cert start p phase (told edges ++ tail)
-time_step cert start p q d s next c (RunsAlone i o) then edges tail phase since clock at same runs goes more = absurd since
-time_step cert start p q d s next c (RunsMain i o rest) (RunsAlone j r) edges tail phase since clock at same runs goes more = absurd goes
-time_step cert start p q d s next c (RunsMain i o rest) (RunsMain j r later) edges tail phase since clock at same runs goes more =
-    plain_time cert start p phase edges tail goes.0
-    (more phase (spent cert s next c rest later i j o r phase since clock goes.1 goes.2 goes.3))
-time_step cert start p q d s next c (RunsMain i o rest) (RunsHandler j m r was) edges tail InHandler since clock at same runs goes more =
-    absurd since
-time_step cert start p q d s next c (RunsMain i o rest) (RunsHandler j m r was) edges tail (InMain n line from) (is, inl before) clock at
-    same runs goes more = absurd (both s.space.timer.matched goes.2 before.0)
-time_step cert start p q d s next c (RunsMain i o rest) (RunsHandler j m r was) edges tail (InMain n line from) (is, inr due) clock at
-    same runs goes more =
-    subst (λ es. MainsTime cert start p (InMain n line from) (told es ++ tail)) (sym goes.0) (goes.1, due.1, more InHandler tt)
-time_step cert start p q d s next c (RunsHandler i m o was) (RunsAlone j r) edges tail phase since clock at same runs goes more = absurd goes
-time_step cert start p q d s next c (RunsHandler i m o was) (RunsMain j r rest) edges tail (InMain n line from) since clock at same runs
-    goes more = absurd since
-time_step cert start p q d s next c (RunsHandler i m o was) (RunsMain j r rest) edges tail InHandler since clock at same runs goes more =
-    subst (λ es. MainsTime cert start p InHandler (told es ++ tail)) (sym goes.0) (
-      rest,
-      returned cert start p q d next j r rest at same runs goes.1 goes.2 goes.3,
-      more (InMain next.clock rest.line rest.clock) (refl, inl (goes.3, ap (λ n. next.clock + n) (sym goes.2))),
-    )
-time_step cert start p q d s next c (RunsHandler i m o was) (RunsHandler j n r later) edges tail (InMain b line from) since clock at same
-    runs goes more = absurd since
-time_step cert start p q d s next c (RunsHandler i m o was) (RunsHandler j n r later) edges tail InHandler since clock at same runs goes
-    more = plain_time cert start p InHandler edges tail goes (more InHandler tt)
+module _ (cert : Cert) (start p q passed : ℕ) (s next : State PadHistory) (c : ℕ) (clock : next.clock ≡ s.clock + c)
+    (at : next.clock ≡ start + passed) (same : q ≡ p + passed) (edges : List Edge) (tail : List (ℕ × EdgeKind)) where
+  time_step : (now then : Running) (phase : Phase) → Since cert s now phase → Runs cert q next then → Goes cert s next c now then edges
+      → ((later : Phase) → Since cert next then later → MainsTime cert start p later tail)
+      → MainsTime cert start p phase (told edges ++ tail)
+  time_step (RunsAlone i o) then phase since runs goes more = absurd since
+  time_step (RunsMain i o rest) (RunsAlone j r) phase since runs goes more = absurd goes
+  time_step (RunsMain i o rest) (RunsMain j r later) phase since runs goes more =
+      plain_time cert start p phase edges tail goes.0
+      (more phase (spent cert s next c rest later i j o r phase since clock goes.1 goes.2 goes.3))
+  time_step (RunsMain i o rest) (RunsHandler j m r was) InHandler since runs goes more = absurd since
+  time_step (RunsMain i o rest) (RunsHandler j m r was) (InMain n line from) (is, inl before) runs goes more =
+      absurd (both_ways s.space.timer.matched before.0 goes.2)
+  time_step (RunsMain i o rest) (RunsHandler j m r was) (InMain n line from) (is, inr due) runs goes more =
+      subst (λ es. MainsTime cert start p (InMain n line from) (told es ++ tail)) (sym goes.0) (goes.1, due.1, more InHandler tt)
+  time_step (RunsHandler i m o was) (RunsAlone j r) phase since runs goes more = absurd goes
+  time_step (RunsHandler i m o was) (RunsMain j r rest) InHandler since runs goes more =
+      subst (λ es. MainsTime cert start p InHandler (told es ++ tail)) (sym goes.0) (
+        rest,
+        returned cert start p q passed next j r rest at same runs goes.1 goes.2 goes.3,
+        more (InMain next.clock rest.line rest.clock) (refl, inl (goes.3, ap (λ n. next.clock + n) (sym goes.2))),
+      )
+  time_step (RunsHandler i m o was) (RunsHandler j n r later) InHandler since runs goes more =
+      plain_time cert start p InHandler edges tail goes (more InHandler tt)
+  time_step (RunsHandler i m o was) then (InMain n line from) since runs goes more = absurd since
 
 run_time : (image : FinMap nat_cmp ℕ) (cert : Cert) → EveryTurnGoes image cert → (start p n q passed : ℕ) (s : State PadHistory)
     (edges : List Edge) (end : State PadHistory) (now : Invariant image cert q s) (phase : Phase) → s.clock ≡ start + passed
@@ -124,8 +101,8 @@ run_time image cert goes start p (suc n) q d s edges end now phase at same since
     let later_at : mid.clock ≡ start + (d + step.0) = omega (arith, at, step.2) in
     let later_same : q + step.0 ≡ p + (d + step.0) = omega (arith, same) in
     subst (MainsTime cert start p phase) (sym whole)
-    (time_step cert start p (q + step.0) (d + step.0) s mid step.0 now.running step.1.running first (told rest) phase since step.2 later_at
-    later_same step.1.runs step.3
+    (time_step cert start p (q + step.0) (d + step.0) s mid step.0 step.2 later_at later_same first (told rest) now.running
+    step.1.running phase since step.1.runs step.3
     (λ later sure. run_time image cert goes start p n (q + step.0) (d + step.0) mid rest end step.1 later later_at later_same sure run))
 
 -- the rest at which main is
@@ -137,7 +114,7 @@ record AtRest (cert : Cert) (p : ℕ) (s : State PadHistory) (running : Running)
 
 clear_of : (s : State PadHistory) (kind : Kind) → bit_is_set s.core.sreg 7 ≡ true → bit_is_set s.core.sreg 7 ≡ is_main kind
     → is_main kind ≡ false → ⊥
-clear_of s kind on is off = both (bit_is_set s.core.sreg 7) on (is ∙ off)
+clear_of s kind on is off = both_ways (bit_is_set s.core.sreg 7) (is ∙ off) on
 
 at_rest : (cert : Cert) (p : ℕ) (s : State PadHistory) (running : Running) → bit_is_set s.core.sreg 7 ≡ true → s.space.timer.matched ≡ false
     → Runs cert p s running → AtRest cert p s running
@@ -147,7 +124,7 @@ at_rest cert p s (RunsHandler i m o was) on clear runs =
 at_rest cert p s (RunsMain i o rest) on clear runs =
     elim runs.rests.phase [
       | inl before ↦ record { rest = rest; is_rest = runs.rests.is_rest; place = before.place; since = (refl, inl (clear, refl)) }
-      | inr due ↦ absurd (both s.space.timer.matched due.set clear)
+      | inr due ↦ absurd (both_ways s.space.timer.matched clear due.set)
     ]
 
 pub mains_time : (image : FinMap nat_cmp ℕ) (cert : Cert) → Premises image cert → MainsTimeHolds image cert

@@ -1,51 +1,27 @@
 -- Some state meets the entry condition.
-use Rattle.std.proofs.Common.{◌≡◌, ◌⊎◌, inl, inr, All, Contains, ℕ, zero, suc, ◌+◌, ◌-◌, ◌*◌, ◌/◌, ◌%◌, ◌^◌, ◌<◌, ◌≤◌, Bool, true, false}
-use Rattle.std.proofs.Common.{cond, eqb, leb, ltb, List, [], ◌∷◌, filter, length, map, get_or, refl, sym, ◌∙◌, ap, subst, arith}
-use Rattle.std.specs.Prelude.{Option, Some, None, unwrap_or, slice_index, ◌&&◌, nat_eq}
-use Rattle.std.specs.List.{AllByRecursion, range_with_len}
-use Rattle.std.specs.Int.{bit_at}
-use Rattle.std.specs.Ordering.{nat_cmp}
-use Rattle.std.specs.FinMap.{FinMap}
+use Rattle.uz_check.proofs.Common.{cond_both, All-contains, and_right, and_parts, ◌≡◌, ◌⊎◌, inl, inr, All, Contains, ℕ, zero, suc, ◌+◌, ◌-◌}
+use Rattle.uz_check.proofs.Common.{◌*◌, ◌/◌, ◌%◌, ◌^◌, ◌<◌, ◌≤◌, Bool, true, false, cond, eqb, leb, ltb, List, [], ◌∷◌, filter, length, map}
+use Rattle.uz_check.proofs.Common.{get_or, refl, sym, ◌∙◌, ap, subst, arith, Option, Some, None, unwrap_or, slice_index, ◌&&◌, nat_eq}
+use Rattle.uz_check.proofs.Common.{AllByRecursion, bit_at, nat_cmp, FinMap, leb-true, nat_tests, eqb_tells, length-map, All-tail, IsFlash}
+use Rattle.uz_check.proofs.Common.{Ends, Bit, Zero, One, Free, OldBit, Response, Four, Five, Kind, Main, Handler, Alone, Owner, MainOwner}
+use Rattle.uz_check.proofs.Common.{HandlerOwner, Cell, Rest, Cert, length_of, start_of, level_at, or_else, response_clocks}
+use Rattle.uz_check.proofs.Common.{kind_tracks as tracks, tracked, bit_is_set, IsByte, Timer, PadHistory, State, IsState, IsSteady, IsIn}
+use Rattle.uz_check.proofs.Common.{EntryBit as BitHolds, AllHold as CellsHold, ends_at, Begins, EntryCondition, depth_limit}
+use Rattle.std.proofs.lemmas.List.Elements.{filter_passes}
+use Rattle.std.specs.List.{range_with_len}
 use Rattle.std.proofs.lemmas.Nat.Bits.{bit_at-suc, bit_at_lowest}
-use Rattle.std.proofs.lemmas.Bool.{leb-true}
-use Rattle.std.proofs.lemmas.Bool.Decides.{nat_tests, eqb_tells}
-use Rattle.std.proofs.lemmas.List.{length-map, get_or-map}
+use Rattle.std.proofs.lemmas.List.{get_or-map}
 use Rattle.std.proofs.lemmas.List.FromFn.{length-map-range_with_len, get_or-map-range_with_len}
-use Rattle.std.proofs.lemmas.List.Elements.{All-tail}
-use Rattle.uz_hex.specs.Cells.{IsFlash}
-use Rattle.uz_schedule.specs.Ends.{Ends}
 use Rattle.uz_schedule.specs.Limits.{rises_from}
-use Rattle.uz_schedule.specs.declared.facts.Bit.{Bit}
-use Rattle.uz_schedule.specs.declared.facts.Bit.TheVariants.{Zero, One, Free, Old as OldBit}
-use Rattle.uz_schedule.specs.declared.kinds.Response.{Response}
-use Rattle.uz_schedule.specs.declared.kinds.Response.TheVariants.{Four, Five}
-use Rattle.uz_schedule.specs.declared.kinds.Kind.{Kind}
-use Rattle.uz_schedule.specs.declared.kinds.Kind.TheVariants.{Main, Handler, Alone}
-use Rattle.uz_schedule.specs.declared.kinds.Owner.{Owner}
-use Rattle.uz_schedule.specs.declared.kinds.Owner.TheVariants.{Main as MainOwner, Handler as HandlerOwner}
-use Rattle.uz_schedule.specs.declared.header.Cell.{Cell}
-use Rattle.uz_schedule.specs.declared.states.Rest.{Rest}
-use Rattle.uz_schedule.specs.declared.certificate.Cert.{Cert}
-use Rattle.uz_schedule.specs.Schedule.{length_of, start_of, level_at, or_else, response_clocks}
-use Rattle.uz_schedule.specs.Tracked.{tracks, tracked}
-use Rattle.uz_core.specs.Arithmetic.{bit_value, bit_is_set}
-use Rattle.uz_core.specs.CoreRange.{IsByte}
-use Rattle.uz_core.specs.Timer.{Timer, IsTimer, timer_at_reset}
-use Rattle.uz_core.specs.PadLine.{PadHistory}
-use Rattle.uz_core.specs.Turn.{State, history_at_reset}
-use Rattle.uz_core.specs.StateRange.{IsState}
-use Rattle.uz_check.specs.Steady.{IsSteady}
+use Rattle.uz_core.specs.Arithmetic.{bit_value}
+use Rattle.uz_core.specs.Timer.{IsTimer, timer_at_reset}
+use Rattle.uz_core.specs.Turn.{history_at_reset}
 use Rattle.uz_check.proofs.LevelFound.{level_found}
-use Rattle.uz_console.specs.Entry.{IsIn, BitHolds, CellsHold, whole_byte, ends_at, flag_at, Begins, EntryCondition}
-use Rattle.uz_transfer.specs.Kinds.{depth_limit}
+use Rattle.uz_console.specs.Entry.{whole_byte, flag_at}
 use Rattle.uz_check.proofs.Fits.{IsByteRange, Limits, EntryLimits, HasRest}
-use Rattle.uz_check.proofs.Fitting.{and_true, line_short}
+use Rattle.uz_check.proofs.Fitting.{line_short}
 use Rattle.uz_check.proofs.Ram.{other}
 use Rattle.uz_check.proofs.Cells.{tracked_there}
-
-and_false : (b : Bool) → (b && false) ≡ false
-and_false true = refl
-and_false false = refl
 
 -- Bytes by a function of the address
 
@@ -113,8 +89,7 @@ flag_holds : (x : Bit) (v : Bool) → v ≡ is_one x → BitHolds x v
 unfolding is_one
 flag_holds Zero v e = e
 flag_holds One v e = e
-flag_holds Free v e = tt
-flag_holds OldBit v e = tt
+flag_holds x v e = tt
 
 flag_bits : List Bit → Bool → ℕ → Bool
 flag_bits flags i k = cond (eqb k 7) i (is_one (flag_at flags k))
@@ -151,18 +126,18 @@ addresses cells = map (λ c. c.at) cells
 weaken : (m n : ℕ) (xs : List ℕ) → m ≤ n → rises_from n xs ≡ true → rises_from m xs ≡ true
 weaken m n [] h e = refl
 weaken m n (x ∷ xs) h e =
-    let both = and_true (leb n x) (rises_from (x + 1) xs) e in
+    let both = and_parts (leb n x) (rises_from (x + 1) xs) e in
     let low : leb m x ≡ true = let b = leb-true n x both.0 in grind (arith, nat_tests) in
     rw (low, both.1) refl
 
 above : (n : ℕ) (cells : List Cell) (d : Cell) → rises_from n (addresses cells) ≡ true → Contains cells d → n ≤ d.at
 above n [] d e (i, below, is) = absurd (omega (arith, below))
 above n (c ∷ cells) d e (zero, below, is) =
-    let both = and_true (leb n c.at) _ e in
+    let both = and_parts (leb n c.at) _ e in
     let same : c ≡ d = is in
     subst (λ (x : Cell). n ≤ x.at) same (leb-true n c.at both.0)
 above n (c ∷ cells) d e (suc i, below, is) =
-    let both = and_true (leb n c.at) _ e in
+    let both = and_parts (leb n c.at) _ e in
     let low = leb-true n c.at both.0 in
     let rest = above (c.at + 1) cells d both.1 (i, omega (arith, below), is) in
     omega (arith, rest, low)
@@ -171,7 +146,7 @@ rises_filtered : (p : Cell → Bool) (n : ℕ) (cells : List Cell) → rises_fro
     (addresses (filter p cells)) ≡ true
 rises_filtered p n [] e = refl
 rises_filtered p n (c ∷ cells) e =
-    let both = and_true (leb n c.at) (rises_from (c.at + 1) (addresses cells)) e in
+    let both = and_parts (leb n c.at) (rises_from (c.at + 1) (addresses cells)) e in
     let rest = rises_filtered p (c.at + 1) cells both.1 in
     chosen (p c) both.0 rest (leb-true n c.at both.0)
   where
@@ -186,17 +161,17 @@ one_cell : (n : ℕ) (cells : List Cell) (c d : Cell) → rises_from n (addresse
 one_cell n [] c d e (i, below, is) has same = absurd (omega (arith, below))
 one_cell n (x ∷ cells) c d e (zero, below, is) (zero, under, it) same = sym is ∙ it
 one_cell n (x ∷ cells) c d e (zero, below, is) (suc j, under, it) same =
-    let both = and_true (leb n x.at) _ e in
+    let both = and_parts (leb n x.at) _ e in
     let up = above (x.at + 1) cells d both.1 (j, omega (arith, under), it) in
     let here : x.at ≡ c.at = ap (λ (q : Cell). q.at) is in
     absurd (omega (arith, up, here, same))
 one_cell n (x ∷ cells) c d e (suc i, below, is) (zero, under, it) same =
-    let both = and_true (leb n x.at) _ e in
+    let both = and_parts (leb n x.at) _ e in
     let up = above (x.at + 1) cells c both.1 (i, omega (arith, below), is) in
     let here : x.at ≡ d.at = ap (λ (q : Cell). q.at) it in
     absurd (omega (arith, up, here, same))
 one_cell n (x ∷ cells) c d e (suc i, below, is) (suc j, under, it) same =
-    let both = and_true (leb n x.at) _ e in
+    let both = and_parts (leb n x.at) _ e in
     one_cell (x.at + 1) cells c d both.1 (i, omega (arith, below), is) (j, omega (arith, under), it) same
 
 -- the least byte of the cell at an address
@@ -210,43 +185,34 @@ record There (cells : List Cell) (a : ℕ) : Type 0 where
   has : Contains cells cell
   at : cell.at ≡ a
 
-eqb_cases : (a b : ℕ) → ((eqb a b ≡ true) × (a ≡ b)) ⊎ (eqb a b ≡ false)
-eqb_cases a b =
-    elim (eqb_tells a b) [
-      | inl t ↦ inl (t.0, t.1)
-      | inr t ↦ inr t.0
-    ]
-
 found_there : (cells : List Cell) (spans : List Ends) (a v : ℕ) → found cells spans a ≡ Some v → There cells a
-found_there [] spans a v e = absurd cc
-found_there (c ∷ cells) [] a v e = absurd cc
 found_there (c ∷ cells) (r ∷ spans) a v e =
-    elim (eqb_cases c.at a) [
+    elim (eqb_tells c.at a) [
       | inl t ↦ record { cell = c; has = (0, omega arith, refl); at = t.1 }
       | inr t ↦
-          let rest = found_there cells spans a v (rw t at e) in
+          let rest = found_there cells spans a v (rw t.0 at e) in
           record { cell = rest.cell; has = (suc rest.has.0, omega (arith, rest.has.1), rest.has.2); at = rest.at }
     ]
+found_there cells spans a v e = absurd cc
 
 found_byte : (cells : List Cell) (spans : List Ends) (a v : ℕ) → All IsByteRange spans → found cells spans a ≡ Some v → v < 256
-found_byte [] spans a v h e = absurd cc
-found_byte (c ∷ cells) [] a v h e = absurd cc
 found_byte (c ∷ cells) (r ∷ spans) a v h e =
-    elim (eqb_cases c.at a) [
+    elim (eqb_tells c.at a) [
       | inl t ↦
           let first : IsByteRange r = h 0 r (omega arith) in
           let is : Some r.lo ≡ Some v = rw t.0 at e in
           let same : r.lo ≡ v = cc is in
           omega (arith, first.order, first.byte, same)
-      | inr t ↦ found_byte cells spans a v (All-tail IsByteRange r spans h) (rw t at e)
+      | inr t ↦ found_byte cells spans a v (All-tail IsByteRange r spans h) (rw t.0 at e)
     ]
+found_byte cells spans a v h e = absurd cc
 
 cells_from : (cells : List Cell) (spans : List Ends) (n : ℕ) (bytes : List ℕ) → rises_from n (addresses cells) ≡ true → All IsByteRange
     spans → ((a v : ℕ) → found cells spans a ≡ Some v → slice_index bytes a ≡ v) → CellsHold cells spans bytes
 cells_from [] spans n bytes e h f = tt
 cells_from (c ∷ cells) [] n bytes e h f = tt
 cells_from (c ∷ cells) (r ∷ spans) n bytes e h f =
-    let both = and_true (leb n c.at) (rises_from (c.at + 1) (addresses cells)) e in
+    let both = and_parts (leb n c.at) (rises_from (c.at + 1) (addresses cells)) e in
     let itself : eqb c.at c.at ≡ true = grind (arith, nat_tests) in
     let first : IsByteRange r = h 0 r (omega arith) in
     let is : slice_index bytes c.at ≡ r.lo = f c.at r.lo (rw itself refl) in (
@@ -281,7 +247,7 @@ memory_cell : (level hi depth : ℕ) (stack : List Ends) (cell : ℕ → Option 
 unfolding memory
 memory_cell level hi depth stack cell a v ram (inl low) e =
     let y : ltb hi (a + depth) ≡ false = grind (arith, nat_tests) in
-    rw (other a 0x25 (omega (arith, ram)), y, and_false (leb a hi), e) refl
+    rw (other a 0x25 (omega (arith, ram)), y, and_right (leb a hi) false refl, e) refl
 memory_cell level hi depth stack cell a v ram (inr high) e =
     let x : leb a hi ≡ false = grind (arith, nat_tests) in
     rw (other a 0x25 (omega (arith, ram)), x, e) refl
@@ -295,16 +261,12 @@ picked : (o : Option ℕ) → ((v : ℕ) → o ≡ Some v → v < 256) → unwra
 picked None h = omega arith
 picked (Some v) h = h v refl
 
-chosen_byte : (b : Bool) (x y : ℕ) → x < 256 → y < 256 → cond b x y < 256
-chosen_byte true x y h g = h
-chosen_byte false x y h g = g
-
 memory_byte : (level hi depth : ℕ) (stack : List Ends) (cell : ℕ → Option ℕ) → level < 256 → All IsByteRange stack
     → ((a v : ℕ) → cell a ≡ Some v → v < 256) → (a : ℕ) → memory level hi depth stack cell a < 256
 unfolding memory
 memory_byte level hi depth stack cell l s c a =
-    chosen_byte (eqb a 0x25) level _ l (chosen_byte (leb a hi && ltb hi (a + depth)) _ _ (low_byte stack (hi - a) s).1
-    (picked (cell a) (c a)))
+    cond_both (eqb a 0x25) level _ (λ b. b < 256) (λ _. l) (λ _. cond_both (leb a hi && ltb hi (a + depth)) _ _ (λ b. b < 256)
+    (λ _. (low_byte stack (hi - a) s).1) (λ _. picked (cell a) (c a)))
 
 -- The core: each register at the low end of its range
 
@@ -344,99 +306,92 @@ four_or_five : (r : Response) → (response_clocks r ≡ 4) ⊎ (response_clocks
 four_or_five Four = inl refl
 four_or_five Five = inr refl
 
-state_is : (image : FinMap nat_cmp ℕ) (cert : Cert) (i : Bool) (timer : Timer) (bytes : List ℕ) → IsFlash image → Limits cert
-    → EntryLimits cert → IsTimer timer → length bytes ≡ 4352 → AllByRecursion IsByte bytes → IsState (state_of image cert i timer bytes)
-state_is image cert i timer bytes flash limits entry t size b = record {
-  image = flash;
-  core = record {
-    count = length-map cert.entry.regs (λ e. e.lo) ∙ entry.registers;
-    registers = lows_bytes cert.entry.regs entry.bytes;
-    sreg = sreg_byte cert.entry.flags i;
-    sp = omega (arith, limits.head.high);
-    pc = entry.pc;
-  };
-  space = record { size = size; bytes = b; timer = t };
-  response = four_or_five cert.head.irq;
-}
+abbrev Enters : FinMap nat_cmp ℕ → Cert → Type 0
+Enters image cert = (s : State PadHistory) × (p : ℕ) × IsState s × (s.image ≡ image) × EntryCondition cert s p
 
--- what a state's bytes must give
-record Filled (cert : Cert) (level : ℕ) (bytes : List ℕ) : Type 0 where
-  sync : slice_index bytes 0x25 ≡ level
-  stack : (k : ℕ) → k < length cert.entry.stack.items → slice_index bytes (cert.head.hi - k) ≡ (ends_at cert.entry.stack.items k).lo
-  cells : CellsHold (tracked cert.head cert.entry.kind) cert.entry.cells.items bytes
+module _ (image : FinMap nat_cmp ℕ) (cert : Cert) (flash : IsFlash image) (limits : Limits cert) (entry : EntryLimits cert)
+    (depth : length cert.entry.stack.items ≤ cert.head.main) where
+  abbrev n : ℕ
+  n = length cert.entry.stack.items
 
-condition : (image : FinMap nat_cmp ℕ) (cert : Cert) (i : Bool) (timer : Timer) (bytes : List ℕ) (p level : ℕ) → Limits cert
-    → EntryLimits cert → length cert.entry.stack.items ≤ cert.head.main → Filled cert level bytes → level ≤ 1 → level_at cert.schedule
-    p ≡ Some level
-    → Begins cert.entry.kind cert (state_of image cert i timer bytes) p → EntryCondition cert (state_of image cert i timer bytes) p
-condition image cert i timer bytes p level limits entry depth filled small level_is begins =
-    let few : length cert.entry.stack.items ≤ cert.head.hi = omega (arith, depth, limits.head.order, limits.head.room) in
-    let sync : slice_index bytes 0x25 % 2 ≡ level = omega (arith, filled.sync, small) in
-    record {
-      pc = refl;
-      registers = λ r b. lows_in cert.entry.regs r (omega (arith, b, entry.registers)) entry.bytes;
-      flags = λ k b. sreg_flags cert.entry.flags i k b;
-      stack = λ k b.
-          let place : cert.head.hi - k ≡ cert.head.hi - length cert.entry.stack.items + length cert.entry.stack.items - k =
-          omega (arith, few, b) in
-          let is : slice_index bytes (cert.head.hi - length cert.entry.stack.items + length cert.entry.stack.items - k)
-          ≡ (ends_at cert.entry.stack.items k).lo = ap (slice_index bytes) (sym place) ∙ filled.stack k b in
-          let low = low_byte cert.entry.stack.items k entry.stack in
-          (omega (arith, is), omega (arith, is, low.0));
-      cells = filled.cells;
-      sp = omega (arith, few);
-      level = level_is ∙ ap (λ v. Some v) (sym sync);
-      response = refl;
-      begins = begins;
-    }
+  abbrev byte_of : ℕ → (ℕ → Option ℕ) → ℕ → ℕ
+  byte_of level cell = memory level cert.head.hi n cert.entry.stack.items cell
 
--- The bytes, for cells by a function of the address
+  cell_place : (c : Cell) → Contains cert.head.cells.items c → (c.at + n ≤ cert.head.hi) ⊎ (cert.head.hi < c.at)
+  cell_place c has =
+      elim (limits.head.off c has) [
+        | inl low ↦ inl (omega (arith, low, depth, limits.head.order, limits.head.room))
+        | inr high ↦ inr high
+      ]
 
-cell_place : (cert : Cert) → Limits cert → (c : Cell) → Contains cert.head.cells.items c → length cert.entry.stack.items ≤ cert.head.main
-    → (c.at + length cert.entry.stack.items ≤ cert.head.hi) ⊎ (cert.head.hi < c.at)
-cell_place cert limits c has depth =
-    elim (limits.head.off c has) [
-      | inl low ↦ inl (omega (arith, low, depth, limits.head.order, limits.head.room))
-      | inr high ↦ inr high
-    ]
+  -- cells of the header whose bytes the function gives
+  held : (level : ℕ) (cell : ℕ → Option ℕ) (kind : Kind) (spans : List Ends) → All IsByteRange spans
+      → ((a v : ℕ) → found (tracked cert.head kind) spans a ≡ Some v → cell a ≡ Some v)
+      → CellsHold (tracked cert.head kind) spans (ram_of (byte_of level cell))
+  held level cell kind spans bytes gives =
+      cells_from (tracked cert.head kind) spans 0 (ram_of (byte_of level cell))
+      (rises_filtered (λ c. tracks kind c.owner) 0 cert.head.cells.items entry.rise) bytes (λ a v e.
+      let there = found_there (tracked cert.head kind) spans a v e in
+      let has = tracked_there cert.head kind there.cell there.has in
+      let range = limits.head.ram there.cell has in
+      let place : (a + n ≤ cert.head.hi) ⊎ (cert.head.hi < a) = subst (λ b. (b + n ≤ cert.head.hi) ⊎ (cert.head.hi < b)) there.at
+      (cell_place there.cell has) in
+      ram_at (byte_of level cell) a (omega (arith, there.at, range.1))
+      ∙ memory_cell level cert.head.hi n cert.entry.stack.items cell a v (omega (arith, there.at, range.0)) place (gives a v e))
 
--- cells of the header whose bytes the function gives
-held : (cert : Cert) (level : ℕ) (cell : ℕ → Option ℕ) (kind : Kind) (spans : List Ends) → Limits cert → EntryLimits cert
-    → length cert.entry.stack.items ≤ cert.head.main → rises_from 0 (addresses (tracked cert.head kind)) ≡ true → All IsByteRange spans
-    → ((a v : ℕ) → found (tracked cert.head kind) spans a ≡ Some v → cell a ≡ Some v) → CellsHold (tracked cert.head kind) spans
-    (ram_of (memory level cert.head.hi (length cert.entry.stack.items) cert.entry.stack.items cell))
-held cert level cell kind spans limits entry depth rise bytes gives =
-    let n = length cert.entry.stack.items in
-    cells_from (tracked cert.head kind) spans 0 (ram_of (memory level cert.head.hi n cert.entry.stack.items cell)) rise bytes (λ a v e.
-    let there = found_there (tracked cert.head kind) spans a v e in
-    let has = tracked_there cert.head kind there.cell there.has in
-    let range = limits.head.ram there.cell has in
-    let place : (a + n ≤ cert.head.hi) ⊎ (cert.head.hi < a) = subst (λ b. (b + n ≤ cert.head.hi) ⊎ (cert.head.hi < b)) there.at
-    (cell_place cert limits there.cell has depth) in
-    ram_at (memory level cert.head.hi n cert.entry.stack.items cell) a (omega (arith, there.at, range.1))
-    ∙ memory_cell level cert.head.hi n cert.entry.stack.items cell a v (omega (arith, there.at, range.0)) place (gives a v e))
-
-rise_of : (cert : Cert) (kind : Kind) → EntryLimits cert → rises_from 0 (addresses (tracked cert.head kind)) ≡ true
-rise_of cert kind entry = rises_filtered (λ c. tracks kind c.owner) 0 cert.head.cells.items entry.rise
-
-filled : (cert : Cert) (level : ℕ) (cell : ℕ → Option ℕ) → Limits cert → EntryLimits cert → length cert.entry.stack.items ≤ cert.head.main
-    → ((a v : ℕ) → found (tracked cert.head cert.entry.kind) cert.entry.cells.items a ≡ Some v → cell a ≡ Some v)
-    → Filled cert level (ram_of (memory level cert.head.hi (length cert.entry.stack.items) cert.entry.stack.items cell))
-filled cert level cell limits entry depth gives =
-    let n = length cert.entry.stack.items in
-    record {
-      sync = ram_at (memory level cert.head.hi n cert.entry.stack.items cell) 0x25 (omega arith) ∙ memory_level level cert.head.hi n
-          cert.entry.stack.items cell;
-      stack = λ k b.
-          let back : cert.head.hi - (cert.head.hi - k) ≡ k = omega (arith, b, depth, limits.head.order, limits.head.room) in
-          ram_at (memory level cert.head.hi n cert.entry.stack.items cell) (cert.head.hi - k) (omega (arith, limits.head.high))
-          ∙ (memory_stack level cert.head.hi n cert.entry.stack.items cell (cert.head.hi - k)
-          (omega (arith, b, depth, limits.head.low, limits.head.order, limits.head.room)) (omega arith)
-          (omega (arith, b, depth, limits.head.order, limits.head.room))
-          ∙ ap (λ j. (ends_at cert.entry.stack.items j).lo) back);
-      cells = held cert level cell cert.entry.kind cert.entry.cells.items limits entry depth (rise_of cert cert.entry.kind entry)
-          entry.cells gives;
-    }
+  -- the state with these bytes enters
+  enters_by : (i : Bool) (timer : Timer) (p level : ℕ) (cell : ℕ → Option ℕ) → IsTimer timer → level ≤ 1
+      → level_at cert.schedule p ≡ Some level → ((a v : ℕ) → cell a ≡ Some v → v < 256)
+      → ((a v : ℕ) → found (tracked cert.head cert.entry.kind) cert.entry.cells.items a ≡ Some v → cell a ≡ Some v)
+      → Begins cert.entry.kind cert (state_of image cert i timer (ram_of (byte_of level cell))) p → Enters image cert
+  enters_by i timer p level cell timed small level_is bytes gives begins =
+      let m = byte_of level cell in
+      let few : n ≤ cert.head.hi = omega (arith, depth, limits.head.order, limits.head.room) in
+      let sync : slice_index (ram_of m) 0x25 ≡ level = ram_at m 0x25 (omega arith) ∙ memory_level level cert.head.hi n
+      cert.entry.stack.items cell in
+      let bit : slice_index (ram_of m) 0x25 % 2 ≡ level = omega (arith, sync, small) in
+      let slot : (k : ℕ) → k < n → slice_index (ram_of m) (cert.head.hi - n + n - k) ≡ (ends_at cert.entry.stack.items k).lo = λ k b.
+      let place : cert.head.hi - n + n - k ≡ cert.head.hi - k = omega (arith, few, b) in
+      let back : cert.head.hi - (cert.head.hi - k) ≡ k = omega (arith, b, depth, limits.head.order, limits.head.room) in
+      ap (slice_index (ram_of m)) place ∙ (ram_at m (cert.head.hi - k) (omega (arith, limits.head.high))
+      ∙ (memory_stack level cert.head.hi n cert.entry.stack.items cell (cert.head.hi - k)
+      (omega (arith, b, depth, limits.head.low, limits.head.order, limits.head.room)) (omega arith)
+      (omega (arith, b, depth, limits.head.order, limits.head.room))
+      ∙ ap (λ j. (ends_at cert.entry.stack.items j).lo) back)) in (
+        state_of image cert i timer (ram_of m),
+        p,
+        record {
+          image = flash;
+          core = record {
+            count = length-map cert.entry.regs (λ e. e.lo) ∙ entry.registers;
+            registers = lows_bytes cert.entry.regs entry.bytes;
+            sreg = sreg_byte cert.entry.flags i;
+            sp = omega (arith, limits.head.high);
+            pc = entry.pc;
+          };
+          space = record {
+            size = ram_length m;
+            bytes = ram_bytes m (memory_byte level cert.head.hi n cert.entry.stack.items cell (omega (arith, small)) entry.stack bytes);
+            timer = timed;
+          };
+          response = four_or_five cert.head.irq;
+        },
+        refl,
+        record {
+          pc = refl;
+          registers = λ r b. lows_in cert.entry.regs r (omega (arith, b, entry.registers)) entry.bytes;
+          flags = λ k b. sreg_flags cert.entry.flags i k b;
+          stack = λ k b.
+              let is = slot k b in
+              let low = low_byte cert.entry.stack.items k entry.stack in
+              (omega (arith, is), omega (arith, is, low.0));
+          cells = held level cell cert.entry.kind cert.entry.cells.items entry.cells gives;
+          sp = omega (arith, few);
+          level = level_is ∙ ap (λ v. Some v) (sym bit);
+          response = refl;
+          begins = begins;
+        },
+      )
 
 either_byte : (a b : Option ℕ) (v : ℕ) → ((u : ℕ) → a ≡ Some u → u < 256) → ((u : ℕ) → b ≡ Some u → u < 256) → or_else a b ≡ Some v
     → v < 256
@@ -449,16 +404,6 @@ first_of_two a b v e = rw e refl
 second_of_two : (a b : Option ℕ) (v : ℕ) → ((u : ℕ) → a ≡ Some u → ⊥) → b ≡ Some v → or_else a b ≡ Some v
 second_of_two None b v h e = e
 second_of_two (Some u) b v h e = absurd (h u refl)
-
-filter_cons : (p : Cell → Bool) (x : Cell) (ys : List Cell) (c : Cell) (b : Bool) → p x ≡ b → (Contains ys c → p c ≡ true)
-    → Contains (cond b (x ∷ ys) ys) c → p c ≡ true
-filter_cons p x ys c true e h (zero, below, is) = let same : x ≡ c = is in ap p (sym same) ∙ e
-filter_cons p x ys c true e h (suc i, below, is) = h (i, omega (arith, below), is)
-filter_cons p x ys c false e h has = h has
-
-in_filtered : (p : Cell → Bool) (xs : List Cell) (c : Cell) → Contains (filter p xs) c → p c ≡ true
-in_filtered p [] c (i, below, is) = absurd (omega (arith, below))
-in_filtered p (x ∷ xs) c has = filter_cons p x (filter p xs) c (p x) refl (in_filtered p xs c) has
 
 not_both : (o : Owner) → tracks Main o ≡ true → tracks Handler o ≡ true → ⊥
 not_both MainOwner e f = absurd cc
@@ -473,29 +418,21 @@ apart cert a u v xs ys entry e f =
     let same : mains.cell ≡ handlers.cell = one_cell 0 cert.head.cells.items mains.cell handlers.cell entry.rise
     (tracked_there cert.head Main mains.cell mains.has) (tracked_there cert.head Handler handlers.cell handlers.has)
     (mains.at ∙ sym handlers.at) in
-    let yes_main : tracks Main mains.cell.owner ≡ true = in_filtered (λ c. tracks Main c.owner) cert.head.cells.items mains.cell
-    mains.has in
-    let no_main : tracks Handler handlers.cell.owner ≡ true = in_filtered (λ c. tracks Handler c.owner) cert.head.cells.items handlers.cell
-    handlers.has in
-    not_both mains.cell.owner yes_main (ap (λ (c : Cell). tracks Handler c.owner) same ∙ no_main)
-
-abbrev Enters : FinMap nat_cmp ℕ → Cert → Type 0
-Enters image cert = (s : State PadHistory) × (p : ℕ) × IsState s × (s.image ≡ image) × EntryCondition cert s p
+    let own : (k : Kind) (c : Cell) → Contains (tracked cert.head k) c → tracks k c.owner ≡ true = λ k c has.
+    All-contains (λ (d : Cell). tracks k d.owner ≡ true) (tracked cert.head k) c
+    (filter_passes (λ (d : Cell). tracks k d.owner) cert.head.cells.items) has in
+    not_both mains.cell.owner (own Main mains.cell mains.has) (ap (λ (c : Cell). tracks Handler c.owner) same
+    ∙ own Handler handlers.cell handlers.has)
 
 alone_enters : (image : FinMap nat_cmp ℕ) (cert : Cert) → IsFlash image → Limits cert → EntryLimits cert → IsSteady cert.schedule
     → cert.entry.kind ≡ Alone → Enters image cert
 alone_enters image cert flash limits entry steady kind =
-    let n = length cert.entry.stack.items in
-    let depth : n ≤ cert.head.main = subst (λ k. n ≤ depth_limit cert.head k) kind entry.slots in
+    let depth : length cert.entry.stack.items ≤ cert.head.main = subst (λ k. length cert.entry.stack.items ≤ depth_limit cert.head k) kind
+    entry.slots in
     let p = start_of cert.schedule cert.entry.line + cert.entry.clock in
     let level = level_found cert.schedule limits.schedule steady p in
     let cell : ℕ → Option ℕ = λ a. found (tracked cert.head cert.entry.kind) cert.entry.cells.items a in
-    let m = memory level.0 cert.head.hi n cert.entry.stack.items cell in
-    let bytes = ram_of m in
-    let timer = timer_at_reset in
-    let small = memory_byte level.0 cert.head.hi n cert.entry.stack.items cell (omega (arith, level.1)) entry.stack
-    (λ a v e. found_byte (tracked cert.head cert.entry.kind) cert.entry.cells.items a v entry.cells e) in
-    let timed : IsTimer timer = record {
+    let timed : IsTimer timer_at_reset = record {
       count = omega arith;
       top = omega arith;
       temp = omega arith;
@@ -503,58 +440,42 @@ alone_enters image cert flash limits entry steady kind =
       control_a = omega arith;
       control_b = omega arith;
     } in
-    let begins : Begins Alone cert (state_of image cert false timer bytes) p = record {
-      interrupts = sreg_i cert.entry.flags false;
-      place = refl;
-    } in (
-      state_of image cert false timer bytes,
-      p,
-      state_is image cert false timer bytes flash limits entry timed (ram_length m) (ram_bytes m small),
-      refl,
-      condition image cert false timer bytes p level.0 limits entry depth (filled cert level.0 cell limits entry depth (λ a v e. e)) level.1
-          level.2 (subst (λ k. Begins k cert (state_of image cert false timer bytes) p) (sym kind) begins),
-    )
+    let s = state_of image cert false timer_at_reset (ram_of (byte_of image cert flash limits entry depth level.0 cell)) in
+    let begins : Begins Alone cert s p = record { interrupts = sreg_i cert.entry.flags false; place = refl } in
+    enters_by image cert flash limits entry depth false timer_at_reset p level.0 cell timed level.1 level.2
+    (λ a v e. found_byte (tracked cert.head cert.entry.kind) cert.entry.cells.items a v entry.cells e) (λ a v e. e)
+    (subst (λ k. Begins k cert s p) (sym kind) begins)
 
 main_enters : (image : FinMap nat_cmp ℕ) (cert : Cert) → IsFlash image → Limits cert → EntryLimits cert → IsSteady cert.schedule
     → cert.entry.kind ≡ Main → (rest : Rest) → Contains cert.rests rest → rest.clock < length_of cert.schedule rest.line → Enters image cert
 main_enters image cert flash limits entry steady kind rest is_rest within =
-    let n = length cert.entry.stack.items in
-    let depth : n ≤ cert.head.main = subst (λ k. n ≤ depth_limit cert.head k) kind entry.slots in
-    let rest_limits = limits.rests rest is_rest in
-    let long = length_of cert.schedule rest.line in
+    let depth : length cert.entry.stack.items ≤ cert.head.main = subst (λ k. length cert.entry.stack.items ≤ depth_limit cert.head k) kind
+    entry.slots in
+    let short = line_short cert.schedule rest.line limits.schedule (limits.rests rest is_rest).line in
     let p = start_of cert.schedule rest.line + rest.clock in
     let level = level_found cert.schedule limits.schedule steady p in
     let own : ℕ → Option ℕ = λ a. found (tracked cert.head Main) cert.entry.cells.items a in
     let others : ℕ → Option ℕ = λ a. found (tracked cert.head Handler) rest.cells.items a in
     let cell : ℕ → Option ℕ = λ a. or_else (own a) (others a) in
-    let m = memory level.0 cert.head.hi n cert.entry.stack.items cell in
-    let bytes = ram_of m in
     let timer : Timer = record {
       count = rest.clock;
-      top = long - 1;
+      top = length_of cert.schedule rest.line - 1;
       matched = false;
       temp = 0;
       interrupt_mask = 2;
       control_a = 0;
       control_b = 9;
     } in
-    let small = memory_byte level.0 cert.head.hi n cert.entry.stack.items cell (omega (arith, level.1)) entry.stack
-    (λ a v e. either_byte (own a) (others a) v (λ u f. found_byte (tracked cert.head Main) cert.entry.cells.items a u entry.cells f)
-    (λ u f. found_byte (tracked cert.head Handler) rest.cells.items a u (entry.rests rest is_rest) f) e) in
     let timed : IsTimer timer = record {
-      count = omega (
-        arith,
-        within,
-        line_short cert.schedule rest.line limits.schedule
-            rest_limits.line,
-      );
-      top = omega (arith, line_short cert.schedule rest.line limits.schedule rest_limits.line);
+      count = omega (arith, within, short);
+      top = omega (arith, short);
       temp = omega arith;
       interrupt_mask = omega arith;
       control_a = omega arith;
       control_b = omega arith;
     } in
-    let begins : Begins Main cert (state_of image cert true timer bytes) p = record {
+    let s = state_of image cert true timer (ram_of (byte_of image cert flash limits entry depth level.0 cell)) in
+    let begins : Begins Main cert s p = record {
       rest = rest;
       is_rest = is_rest;
       interrupts = sreg_i cert.entry.flags true;
@@ -562,19 +483,14 @@ main_enters image cert flash limits entry steady kind rest is_rest within =
       place = refl;
       rested = omega arith;
       within = within;
-      cells = held cert level.0 cell Handler rest.cells.items limits entry depth (rise_of cert Handler entry) (entry.rests rest is_rest)
+      cells = held image cert flash limits entry depth level.0 cell Handler rest.cells.items (entry.rests rest is_rest)
           (λ a v e. second_of_two (own a) (others a) v (λ u f. apart cert a u v cert.entry.cells.items rest.cells.items entry f e) e);
-    } in (
-      state_of image cert true timer bytes,
-      p,
-      state_is image cert true timer bytes flash limits entry timed (ram_length m) (ram_bytes m small),
-      refl,
-      condition image cert true timer bytes p level.0 limits entry depth
-          (filled cert level.0 cell limits entry depth
-          (λ a v e. first_of_two (own a) (others a) v (subst (λ k. found (tracked cert.head k) cert.entry.cells.items a ≡ Some v) kind
-          e)))
-          level.1 level.2 (subst (λ k. Begins k cert (state_of image cert true timer bytes) p) (sym kind) begins),
-    )
+    } in
+    enters_by image cert flash limits entry depth true timer p level.0 cell timed level.1 level.2
+    (λ a v e. either_byte (own a) (others a) v (λ u f. found_byte (tracked cert.head Main) cert.entry.cells.items a u entry.cells f)
+    (λ u f. found_byte (tracked cert.head Handler) rest.cells.items a u (entry.rests rest is_rest) f) e)
+    (λ a v e. first_of_two (own a) (others a) v (subst (λ k. found (tracked cert.head k) cert.entry.cells.items a ≡ Some v) kind e))
+    (subst (λ k. Begins k cert s p) (sym kind) begins)
 
 pub some_state : (image : FinMap nat_cmp ℕ) (cert : Cert) → IsFlash image → Limits cert → EntryLimits cert → IsSteady cert.schedule
     → HasRest cert cert.entry.kind → Enters image cert

@@ -1,73 +1,31 @@
 -- The local rule in a frame of scanlines.
-use Rattle.std.proofs.Common.{◌≡◌, ◌≢◌, ◌⊎◌, inl, inr, All, Contains, ℕ, zero, suc, ◌+◌, ◌-◌, ◌≤◌, Bool, true, false, cond, List, []}
-use Rattle.std.proofs.Common.{◌∷◌, length, refl, sym, ◌∙◌, ap, subst, arith}
-use Rattle.std.specs.Prelude.{pos, ◌+ℤ◌, ◌*ℤ◌, ◌&&◌, ◌||◌, not, nat_eq, is_none, Option, Some, None, Result, Ok, Err, option_and_then, slice_get}
-use Rattle.std.specs.Ordering.{nat_cmp}
-use Rattle.std.specs.FinMap.{FinMap}
-use Rattle.std.proofs.Math.Bool.{or-false}
-use Rattle.std.proofs.lemmas.Bool.Decides.{eqb_tells}
-use Rattle.std.proofs.lemmas.Bool.{eq-eqb}
-use Rattle.std.proofs.lemmas.Option.{get_or_from_slice_get, slice_get_within}
-use Rattle.std.proofs.lemmas.List.Elements.{All-get_or}
-use Rattle.avr_table.specs.declared.Instr.{Instr}
+use Rattle.uz_check.proofs.Common.{and_parts, and_from, or_cases, or_left, or_right, not-false, eqb-true, ◌≡◌, ◌≢◌, ◌⊎◌, inl, inr, All}
+use Rattle.uz_check.proofs.Common.{Contains, ℕ, zero, suc, ◌+◌, ◌-◌, ◌≤◌, Bool, true, false, cond, List, [], ◌∷◌, length, refl, sym, ◌∙◌}
+use Rattle.uz_check.proofs.Common.{ap, subst, arith, pos, ◌+ℤ◌, ◌*ℤ◌, ◌&&◌, not, nat_eq, is_none, Option, Some, None, Result, Ok, Err}
+use Rattle.uz_check.proofs.Common.{option_and_then, slice_get, nat_cmp, FinMap, or-false, eqb_tells, eq-eqb, get_or_from_slice_get}
+use Rattle.uz_check.proofs.Common.{slice_get_within, All-get_or, Instr, whole_byte, is_in_box, clock_below, instance_of, instance_at}
+use Rattle.uz_check.proofs.Common.{ScheduleFits, order_of, uniform, scanline, event_at, PointFits, WellFormed, Cert, Kind, Main, Handler}
+use Rattle.uz_check.proofs.Common.{Alone, EventKind, Sync, Schedule, Instance, Point, Rest, Fail, Exit, Step, each_exit, is_main, refuse_if}
+use Rattle.uz_check.proofs.Common.{narrowed, IsReadAt, step_of_row, successor, position_of, is_kind, is_event, is_quiet, emits_as_scheduled}
+use Rattle.uz_check.proofs.Common.{edges_fit, cells_inside, restored, first_exit, is_no_opcode, rest_in, return_fail, row_emits_in_main}
+use Rattle.uz_check.proofs.Common.{end_of, has_successors, compares_edges, passes, result_fail, step_fail, local_fail, IsLocal, lies_in_any}
+use Rattle.uz_check.proofs.Common.{lies_in_point, LiesInPoint, Accepts, AreScanlines, position, event_by_position, level_by_position}
+use Rattle.uz_check.proofs.Common.{LiesByPosition, instance_by_level, instance_by_point, instance_by_position}
+use Rattle.uz_check.proofs.Fitting.{opened}
+use Rattle.uz_check.proofs.LocalTells.{unrefused, event_tells, none_tells, exit_tells}
 use Rattle.uz_schedule.proofs.Starts.{order_is}
-use Rattle.uz_schedule.specs.Ends.{whole_byte}
-use Rattle.uz_schedule.specs.Instances.{is_in_box, clock_below, instance_of, instance_at}
-use Rattle.uz_schedule.specs.Limits.{ScheduleFits}
-use Rattle.uz_schedule.specs.Lines.{order_of, uniform}
-use Rattle.uz_schedule.specs.Schedule.{scanline, event_at}
-use Rattle.uz_schedule.specs.WellFormed.{IsTimerLeftOut, PointFits, RulesFit, WellFormed}
-use Rattle.uz_schedule.specs.declared.certificate.Cert.{Cert}
-use Rattle.uz_schedule.specs.declared.kinds.Kind.{Kind}
-use Rattle.uz_schedule.specs.declared.kinds.Kind.TheVariants.{Main, Handler, Alone}
+use Rattle.uz_schedule.specs.WellFormed.{IsTimerLeftOut, RulesFit}
 use Rattle.uz_schedule.specs.declared.kinds.RuleVersion.{RuleVersion}
 use Rattle.uz_schedule.specs.declared.kinds.RuleVersion.TheVariants.{Two, Three}
-use Rattle.uz_schedule.specs.declared.lines.EventKind.{EventKind}
-use Rattle.uz_schedule.specs.declared.lines.EventKind.TheVariants.{Sync, Pixel, Sound, Leave}
-use Rattle.uz_schedule.specs.declared.lines.Schedule.{Schedule}
-use Rattle.uz_schedule.specs.declared.states.Instance.{Instance}
-use Rattle.uz_schedule.specs.declared.states.Point.{Point}
-use Rattle.uz_schedule.specs.declared.states.Rest.{Rest}
-use Rattle.uz_transfer.specs.declared.fail.Fail.{Fail}
-use Rattle.uz_transfer.specs.declared.fail.Fail.TheVariants as fail
-use Rattle.uz_transfer.specs.declared.step.Exit.{Exit}
-use Rattle.uz_transfer.specs.declared.step.Step.{Step}
-use Rattle.uz_transfer.specs.Exits.{each_exit}
-use Rattle.uz_transfer.specs.Kinds.{is_main}
-use Rattle.uz_transfer.specs.Refusals.{refuse_if}
-use Rattle.uz_transfer.specs.Narrowed.{narrowed}
-use Rattle.uz_transfer.specs.Step.{IsReadAt, step_of_row, successor}
-use Rattle.uz_transfer.specs.declared.step.Test.TheVariants as asks
-use Rattle.uz_rules.specs.EdgeRule.{position_of, is_kind, is_event, is_quiet, emits_as_scheduled, edges_fit}
-use Rattle.uz_rules.specs.Inside.{cells_inside, restored}
-use Rattle.uz_rules.specs.Local.{first_exit, is_no_opcode, rest_in, return_fail, row_emits_in_main, end_of, has_successors}
-use Rattle.uz_rules.specs.Local.{compares_edges, passes, result_fail, step_fail, local_fail, IsLocal}
-use Rattle.uz_rules.specs.Successors.{lies_in_any, lies_in_point, LiesInPoint}
 use Rattle.uz_rules.proofs.AskedLaws.{row_unasked}
-use Rattle.uz_check.specs.Acceptance.{Accepts}
-use Rattle.uz_check.specs.ByPosition.{AreScanlines, position, event_by_position, level_by_position, LiesByPosition}
-use Rattle.uz_check.specs.ByPosition.{instance_by_level, instance_by_point, instance_by_position}
 use Rattle.uz_check.specs.OldRules.{IsOld, EmitsByPosition, ReturnsAtRest, LiesInOne, LeadsByPosition, PassesByPosition, AcceptsOld}
 use Rattle.uz_check.specs.OldRules.{result_by_scanlines}
-use Rattle.uz_check.proofs.FrameRules.{and_true, or_true, or_first, event_past, lies_is, opened, rest_is, entry_is}
-use Rattle.uz_check.proofs.Instances.{instance_is}
+use Rattle.uz_check.proofs.FrameRules.{event_past, lies_is, rest_is, entry_is}
+use Rattle.uz_check.proofs.Positions.{instance_is}
+use Rattle.uz_transfer.specs.declared.fail.Fail.TheVariants as fail
+use Rattle.uz_transfer.specs.declared.step.Test.TheVariants as asks
 
 -- Tests
-
-pub both_true : (a b : Bool) → a ≡ true → b ≡ true → (a && b) ≡ true
-both_true a b p q = λ i. p i && q i
-
-either_true : (a b : Bool) → (a || b) ≡ true → (a ≡ true) ⊎ (b ≡ true)
-either_true true b e = inl refl
-either_true false b e = inr e
-
-pub unrefused : (b : Bool) (why : Fail) (later : Option Fail) → None ≡ refuse_if b why later → (b ≡ false) × (None ≡ later)
-unrefused true why later e = absurd cc
-unrefused false why later e = (refl, e)
-
-not_false : (b : Bool) → not b ≡ false → b ≡ true
-not_false true e = refl
-not_false false e = absurd cc
 
 -- a test that holds refuses nothing
 passed : (b : Bool) (why : Fail) (later : Option Fail) → b ≡ true → None ≡ later → None ≡ refuse_if (not b) why later
@@ -80,50 +38,13 @@ free false why later e h = h
 
 -- Events
 
-number_tells : (a b : ℕ) → nat_eq a b ≡ true → a ≡ b
-number_tells a b e =
-    elim (eqb_tells a b) [
-      | inl t ↦ t.1
-      | inr t ↦ absurd (cc (e, t.0))
-    ]
-
-kind_tells : (a b : EventKind) → is_kind a b ≡ true → a ≡ b
-kind_tells (Sync a) (Sync b) e = ap Sync (number_tells a b e)
-kind_tells Pixel Pixel e = refl
-kind_tells Sound Sound e = refl
-kind_tells Leave Leave e = refl
-kind_tells (Sync a) Pixel e = absurd cc
-kind_tells (Sync a) Sound e = absurd cc
-kind_tells (Sync a) Leave e = absurd cc
-kind_tells Pixel (Sync b) e = absurd cc
-kind_tells Pixel Sound e = absurd cc
-kind_tells Pixel Leave e = absurd cc
-kind_tells Sound (Sync b) e = absurd cc
-kind_tells Sound Pixel e = absurd cc
-kind_tells Sound Leave e = absurd cc
-kind_tells Leave (Sync b) e = absurd cc
-kind_tells Leave Pixel e = absurd cc
-kind_tells Leave Sound e = absurd cc
-
-event_tells : (a b : Option EventKind) → is_event a b ≡ true → a ≡ b
-event_tells None None e = refl
-event_tells (Some a) (Some b) e = ap (λ k. Some k) (kind_tells a b e)
-event_tells None (Some b) e = absurd cc
-event_tells (Some a) None e = absurd cc
-
 same_kind_true : (e : EventKind) → is_kind e e ≡ true
 same_kind_true (Sync v) = eq-eqb v v refl
-same_kind_true Pixel = refl
-same_kind_true Sound = refl
-same_kind_true Leave = refl
+same_kind_true e = refl
 
 same_event_true : (e : Option EventKind) → is_event e e ≡ true
 same_event_true None = refl
 same_event_true (Some e) = same_kind_true e
-
-none_tells : (o : Option EventKind) → is_none o ≡ true → o ≡ None
-none_tells None e = refl
-none_tells (Some k) e = absurd cc
 
 quiet_all : (event : ℕ → Option EventKind) (p n : ℕ) → ((k : ℕ) → 1 ≤ k → k ≤ n → event (p + k) ≡ None) → is_quiet event p n ≡ true
 unfolding is_quiet
@@ -135,7 +56,7 @@ quiet_tells : (event : ℕ → Option EventKind) (p n k : ℕ) → is_quiet even
 unfolding is_quiet
 quiet_tells event p zero k e some few = absurd (omega (arith, some, few))
 quiet_tells event p (suc n) k e some few =
-    let both = and_true (is_quiet event p n) _ e in
+    let both = and_parts (is_quiet event p n) _ e in
     elim (eqb_tells k (suc n)) [
       | inl t ↦ ap (λ m. event (p + m)) t.1 ∙ none_tells _ both.1
       | inr t ↦ quiet_tells event p n k both.0 some (omega (arith, few, t.1))
@@ -143,16 +64,9 @@ quiet_tells event p (suc n) k e some few =
 
 -- Exits
 
-each_tells : (test : Exit → Bool) (exits : List Exit) (exit : Exit) → each_exit test exits ≡ true → Contains exits exit → test exit ≡ true
-each_tells test [] exit e (i, below, is) = absurd (omega (arith, below))
-each_tells test (x ∷ exits) exit e (zero, below, is) = let same : x ≡ exit = is in ap test (sym same)
-    ∙ (and_true (test x) (each_exit test exits) e).0
-each_tells test (x ∷ exits) exit e (suc i, below, is) = each_tells test exits exit (and_true (test x) (each_exit test exits) e).1
-    (i, omega (arith, below), is)
-
 each_all : (test : Exit → Bool) (exits : List Exit) → ((exit : Exit) → Contains exits exit → test exit ≡ true) → each_exit test exits ≡ true
 each_all test [] all = refl
-each_all test (x ∷ exits) all = both_true (test x) (each_exit test exits) (all x (zero, omega arith, refl))
+each_all test (x ∷ exits) all = and_from (test x) (each_exit test exits) (all x (zero, omega arith, refl))
     (each_all test exits (λ exit has. all exit (suc has.0, omega (arith, has.1), has.2)))
 
 pub each_true : (test : Exit → Bool) (exits : List Exit) → ((exit : Exit) → test exit ≡ true) → each_exit test exits ≡ true
@@ -161,39 +75,37 @@ each_true test exits all = each_all test exits (λ exit _. all exit)
 -- at an instance of a frame of scanlines
 
 module _ (cert : Cert) (fits : ScheduleFits cert.schedule) (h : AreScanlines cert.schedule) where
+  there : (at : Instance) (k : ℕ) → event_at cert.schedule (position_of cert.schedule at + k) ≡ event_by_position cert.schedule
+      (position at.line at.clock + k)
+  there at k = event_past cert.schedule at.line at.clock k fits h
+
   emits_told : (at : Instance) (emitted : Option EventKind) (exit : Exit) → emits_as_scheduled cert.schedule
       (position_of cert.schedule at) emitted exit.clocks ≡ true → EmitsByPosition cert.schedule at emitted exit
   emits_told at emitted exit e =
       let s = cert.schedule in
-      let both = and_true (is_quiet (event_at s) (position_of s at) (exit.clocks - 1)) _ e in
+      let both = and_parts (is_quiet (event_at s) (position_of s at) (exit.clocks - 1)) _ e in
       record {
-        quiet = λ k some few. sym (there k) ∙ quiet_tells (event_at s) (position_of s at) (exit.clocks - 1) k both.0 some (omega (arith, few));
-        end = sym (there exit.clocks) ∙ event_tells (event_at s (position_of s at + exit.clocks)) emitted both.1;
+        quiet = λ k some few. sym (there at k) ∙ quiet_tells (event_at s) (position_of s at) (exit.clocks - 1) k both.0 some
+            (omega (arith, few));
+        end = sym (there at exit.clocks) ∙ event_tells (event_at s (position_of s at + exit.clocks)) emitted both.1;
       }
-    where
-      there : (k : ℕ) → event_at cert.schedule (position_of cert.schedule at + k) ≡ event_by_position cert.schedule
-          (position at.line at.clock + k)
-      there k = event_past cert.schedule at.line at.clock k fits h
 
   emits_back : (at : Instance) (emitted : Option EventKind) (exit : Exit) → EmitsByPosition cert.schedule at emitted exit
       → emits_as_scheduled cert.schedule (position_of cert.schedule at) emitted exit.clocks ≡ true
   emits_back at emitted exit told =
       let s = cert.schedule in
       let last : is_event (event_at s (position_of s at + exit.clocks)) emitted ≡ true =
-      ap (λ o. is_event o emitted) (there exit.clocks ∙ told.end) ∙ same_event_true emitted in
-      both_true (is_quiet (event_at s) (position_of s at) (exit.clocks - 1)) _
-      (quiet_all (event_at s) (position_of s at) (exit.clocks - 1) (λ k some few. there k ∙ told.quiet k some (omega (arith, some, few)))) last
-    where
-      there : (k : ℕ) → event_at cert.schedule (position_of cert.schedule at + k) ≡ event_by_position cert.schedule
-          (position at.line at.clock + k)
-      there k = event_past cert.schedule at.line at.clock k fits h
+      ap (λ o. is_event o emitted) (there at exit.clocks ∙ told.end) ∙ same_event_true emitted in
+      and_from (is_quiet (event_at s) (position_of s at) (exit.clocks - 1)) _
+      (quiet_all (event_at s) (position_of s at) (exit.clocks - 1)
+      (λ k some few. there at k ∙ told.quiet k some (omega (arith, some, few)))) last
 
   -- Named points
 
   named_told : LiesInPoint → (ids : List ℕ) (x : Instance) → lies_in_any cert ids x ≡ true → LiesInOne cert ids x
   named_told laws [] x e = absurd cc
   named_told laws (id ∷ ids) x e =
-      elim (either_true (lies_in_point cert id x) (lies_in_any cert ids x) e) [
+      elim (or_cases (lies_in_point cert id x) (lies_in_any cert ids x) e) [
         | inl here ↦ record { id = id; named = (zero, omega arith, refl); lies = (lies_is laws cert id x fits h).0 here }
         | inr there ↦ let one = named_told laws ids x there in record {
           id = one.id;
@@ -207,10 +119,10 @@ module _ (cert : Cert) (fits : ScheduleFits cert.schedule) (h : AreScanlines cer
   named_back laws [] x id (i, below, is) lies = absurd (omega (arith, below))
   named_back laws (own ∷ ids) x id (zero, below, is) lies =
       let same : own ≡ id = is in
-      or_first (lies_in_point cert own x) (lies_in_any cert ids x)
+      or_left (lies_in_point cert own x) (lies_in_any cert ids x)
       (ap (λ n. lies_in_point cert n x) same ∙ (lies_is laws cert id x fits h).1 lies)
   named_back laws (own ∷ ids) x id (suc i, below, is) lies =
-      or_true (lies_in_point cert own x) (lies_in_any cert ids x) (named_back laws ids x id (i, omega (arith, below), is) lies)
+      or_right (lies_in_point cert own x) (lies_in_any cert ids x) (named_back laws ids x id (i, omega (arith, below), is) lies)
 
   -- Where a step leads
 
@@ -224,8 +136,8 @@ module _ (cert : Cert) (fits : ScheduleFits cert.schedule) (h : AreScanlines cer
   return_told (Some rest) end is e =
       let first = unrefused (not (nat_eq end.clock rest.clock)) fail.Clock _ e in
       let second = unrefused (not (restored end && cells_inside end.cells.items rest.cells.items)) fail.Restore None first.1 in
-      let both = and_true (restored end) _ (not_false _ second.0) in
-      record { rest = rest; there = is; clock = number_tells end.clock rest.clock (not_false _ first.0); restored = both.0; cells = both.1 }
+      let both = and_parts (restored end) _ (not-false _ second.0) in
+      record { rest = rest; there = is; clock = eqb-true end.clock rest.clock (not-false _ first.0); restored = both.0; cells = both.1 }
 
   return_back : (end : Instance) → ReturnsAtRest cert end → None ≡ return_fail (rest_in cert.rests end.line) end
   return_back end told =
@@ -233,7 +145,7 @@ module _ (cert : Cert) (fits : ScheduleFits cert.schedule) (h : AreScanlines cer
       let here : None ≡ return_fail (Some rest) end =
       passed (nat_eq end.clock rest.clock) fail.Clock _ (eq-eqb end.clock rest.clock told.clock)
       (passed (restored end && cells_inside end.cells.items rest.cells.items) fail.Restore None
-      (both_true (restored end) _ told.restored told.cells) refl) in
+      (and_from (restored end) _ told.restored told.cells) refl) in
       here ∙ sym (ap (λ r. return_fail r end) told.there)
 
   -- where nothing is asked, nothing is narrowed, and a point without a register of a cover covers nothing by its values
@@ -254,9 +166,10 @@ module _ (cert : Cert) (fits : ScheduleFits cert.schedule) (h : AreScanlines cer
       let test = unrefused (not (has_successors cert next None at step)) fail.Successor None (rw is at e) in
       record {
         back = λ other. absurd (cc (is, other));
-        forth = λ _ exit has. subst (LiesInOne cert next) (result_is at step exit) (named_told laws next _ (sym (plain next at step exit none)
-            ∙ each_tells (λ x. passes cert next None (narrowed step.test x (successor (order_of cert.schedule) at step x))) step.exits.items
-            exit (not_false _ test.0) has));
+        forth = λ _ exit has. subst (LiesInOne cert next) (result_is at step exit)
+            (named_told laws next _ (sym (plain next at step exit none)
+            ∙ exit_tells (λ x. passes cert next None (narrowed step.test x (successor (order_of cert.schedule) at step x))) step.exits.items
+            exit (not-false _ test.0) has));
       }
 
   leads_back : LiesInPoint → (next : List ℕ) (at : Instance) (step : Step) (back : Bool) → step.test ≡ asks.Nothing → step.back ≡ back
@@ -292,9 +205,8 @@ timer_of s p l c at none e = at_clock (is_in_box p l c) (clock_below scanline (p
         }
 
     at_clock : (t : Bool) (o : Option ℕ) → cond t (option_and_then (instance_by_level s p l c) o) None ≡ Some at → IsUntimed at
-    at_clock true None e = absurd cc
     at_clock true (Some k) e = at_level k (level_by_position s (position l k)) e
-    at_clock false o e = absurd cc
+    at_clock t o e = absurd cc
 
 untimed : (cert : Cert) → All IsTimerLeftOut cert.points → (id l c : ℕ) (at : Instance) → instance_by_position cert id l c ≡ Some at
     → IsUntimed at
@@ -309,16 +221,12 @@ untimed cert none id l c at e =
 
 apart_main : (k : Kind) → k ≢ Main → is_main k ≡ false
 apart_main Main h = absurd (h refl)
-apart_main Handler h = refl
-apart_main Alone h = refl
+apart_main k h = refl
 
 main_or : (k : Kind) → (k ≡ Main) ⊎ (k ≢ Main)
 main_or Main = inl refl
 main_or Handler = inr (λ e. cc e)
 main_or Alone = inr (λ e. cc e)
-
-ok_step : (a b : Step) → ◌≡◌ {A = Result Step Fail} (Ok a) (Ok b) → a ≡ b
-ok_step a b h = cc
 
 -- an instance that isn't refused has a step, which passes
 record Passed (image : FinMap nat_cmp ℕ) (cert : Cert) (next : List ℕ) (split : Option ℕ) (row : Instr) (at : Instance) : Type 0 where
@@ -335,7 +243,7 @@ step_passed image cert next split row at (Err why) is e = absurd cc
 step_passed image cert next split row at (Ok step) is e =
     let first = unrefused (row_emits_in_main (Some row) at) fail.Edge _ e in
     let second = unrefused (not (compares_edges cert at step)) fail.Edge _ first.1 in
-    record { step = step; steps = is; unseen = first.0; edges = not_false _ second.0; leads = second.1 }
+    record { step = step; steps = is; unseen = first.0; edges = not-false _ second.0; leads = second.1 }
 
 module _ (laws : LiesInPoint) (image : FinMap nat_cmp ℕ) (cert : Cert) (formed : WellFormed cert) (old : IsOld cert) where
   fits : ScheduleFits cert.schedule
@@ -365,7 +273,8 @@ module _ (laws : LiesInPoint) (image : FinMap nat_cmp ℕ) (cert : Cert) (formed
       absurd (cc (unrefused (is_no_opcode (Some row)) fail.Opcode _ e).1)
   point_told id l c point (Some row) (Some at) reads is e =
       let first = unrefused (is_no_opcode (Some row)) fail.Opcode _ e in
-      let own = step_passed image cert point.next.items None row at (step_of_row cert.head (order_of cert.schedule) image (Some row) at) refl
+      let own = step_passed image cert point.next.items None row at (step_of_row cert.head (order_of cert.schedule) image (Some row) at)
+      refl
       first.1 in
       let there : instance_by_position cert id l c ≡ Some at = sym (instance_is cert id l c fits old.lengths) ∙ is in
       let timer = untimed cert old.points id l c at there in
@@ -381,7 +290,7 @@ module _ (laws : LiesInPoint) (image : FinMap nat_cmp ℕ) (cert : Cert) (formed
         steps = ap (λ lines. step_of_row cert.head lines image (Some row) at) (sym order) ∙ own.steps;
         unseen = own.unseen;
         emits = λ apart exit has. emits_told cert fits old.lengths at own.step.emit exit
-            (each_tells (λ x. emits_as_scheduled cert.schedule (position_of cert.schedule at) own.step.emit x.clocks)
+            (exit_tells (λ x. emits_as_scheduled cert.schedule (position_of cert.schedule at) own.step.emit x.clocks)
             own.step.exits.items exit (other_edges at own.step own.edges (apart_main at.kind apart)) has);
         leads = leads_told cert fits old.lengths laws point.next.items at own.step own.step.back
             (row_unasked cert.head (order_of cert.schedule) image (Some row) at own.step old.version own.steps) refl own.leads;
@@ -418,8 +327,8 @@ module _ (laws : LiesInPoint) (image : FinMap nat_cmp ℕ) (cert : Cert) (formed
       }
     where
       edges : (told.at.kind ≡ Main) ⊎ (told.at.kind ≢ Main) → compares_edges cert told.at told.step ≡ true
-      edges (inl main) = or_first (is_main told.at.kind) _ (ap is_main main)
-      edges (inr apart) = or_true (is_main told.at.kind) _ (each_all
+      edges (inl main) = or_left (is_main told.at.kind) _ (ap is_main main)
+      edges (inr apart) = or_right (is_main told.at.kind) _ (each_all
           (λ x. emits_as_scheduled cert.schedule (position_of cert.schedule told.at) told.step.emit x.clocks) told.step.exits.items
           (λ exit has. emits_back cert fits old.lengths told.at told.step.emit exit (told.emits apart exit has)))
 

@@ -1,24 +1,13 @@
 -- A pair has one first refusal, and none where the rules hold.
-use Rattle.std.proofs.Common.{◌≡◌, inl, inr, ℕ, zero, suc, ◌<◌, ◌≤◌, List, [], ◌∷◌, length, refl, sym, ◌∙◌, ap, subst, arith}
-use Rattle.std.specs.Prelude.{Option, Some, None, slice_get}
-use Rattle.std.specs.Option.{option_map}
-use Rattle.std.specs.Ordering.{nat_cmp}
-use Rattle.std.specs.FinMap.{FinMap}
-use Rattle.std.proofs.lemmas.Bool.Decides.{leb_tells}
+use Rattle.uz_check.proofs.Common.{true, is_in_box, Contains, same_Some, slice_get_within, get_or_from_slice_get, le-leb, ◌≡◌, inl, inr, ℕ}
+use Rattle.uz_check.proofs.Common.{zero, suc, ◌<◌, ◌≤◌, List, [], ◌∷◌, length, refl, sym, ◌∙◌, ap, subst, arith, Option, Some, None}
+use Rattle.uz_check.proofs.Common.{slice_get, option_map, nat_cmp, FinMap, leb_tells, OneLocal, Schedule as Frame, Rest, Point, Cert}
+use Rattle.uz_check.proofs.Common.{Accepts, RefusedWhy, Why, ScheduleRefusal, RestRefusal, RestsRefusal, EntryRefusal, InstanceRefusal}
+use Rattle.uz_check.proofs.Common.{LineRefusal, PointRefusal, PointsRefusal, FirstRefusal}
 use Rattle.uz_rules.proofs.LocalLaws.{local_is_unique}
-use Rattle.uz_rules.specs.Local.{IsLocal, OneLocal}
-use Rattle.uz_schedule.specs.declared.lines.Schedule.{Schedule as Frame}
-use Rattle.uz_schedule.specs.declared.states.Rest.{Rest}
-use Rattle.uz_schedule.specs.declared.states.Point.{Point}
-use Rattle.uz_schedule.specs.declared.certificate.Cert.{Cert}
-use Rattle.uz_check.specs.Acceptance.{Accepts}
-use Rattle.uz_check.specs.FrameRules.{RestPasses}
-use Rattle.uz_check.specs.declared.refusal.RefusedWhy.{RefusedWhy}
 use Rattle.uz_check.specs.declared.refusal.RefusedWhy.TheVariants.{Schedule, Point as PointWhy}
-use Rattle.uz_check.specs.Refusal.{Why, FirstOf, InTurn, ScheduleRefusal, RestRefusal, RestsRefusal, EntryRefusal, InstanceRefusal}
-use Rattle.uz_check.specs.Refusal.{LineRefusal, PointRefusal, PointsRefusal, FirstRefusal}
-use Rattle.uz_check.proofs.SteadyTold.{steady_told}
-use Rattle.uz_check.proofs.Accepting.{box_told, in_list}
+use Rattle.uz_check.specs.Refusal.{FirstOf, InTurn}
+use Rattle.uz_check.proofs.SteadinessLaws.{steady_told}
 
 -- a relation has one answer
 abbrev One : (Why → Type 0) → Type 0
@@ -51,9 +40,6 @@ turn_one first second f s (Some a) (Some b) (inl h) (inr g) = absurd (let e : So
 turn_one first second f s (Some a) (Some b) (inr h) (inl g) = absurd (let e : None ≡ Some b = f None (Some b) h.0 g in cc e)
 turn_one first second f s (Some a) (Some b) (inr h) (inr g) = s (Some a) (Some b) h.1 g.1
 
-same_some : {A : Type 0} (o : Option A) (a b : A) → o ≡ Some a → o ≡ Some b → a ≡ b
-same_some o a b e f = cc
-
 schedule_one : (s : Frame) → One (ScheduleRefusal s)
 unfolding ScheduleRefusal
 schedule_one s a b h g = h ∙ sym g
@@ -67,7 +53,7 @@ rest_one cert rest (Some a) (Some b) h g = ap (λ w. Some w) (h.1 ∙ sym g.1)
 
 rest_at_one : (cert : Cert) (i : ℕ) → One (λ o. (rest : Rest) × (slice_get cert.rests i ≡ Some rest) × RestRefusal cert rest o)
 rest_at_one cert i a b (rest, found, h) (other, there, g) =
-    let same = same_some (slice_get cert.rests i) other rest there found in
+    let same = same_Some other rest (sym there ∙ found) in
     rest_one cert rest a b h (subst (λ r. RestRefusal cert r b) same g)
 
 rests_one : (cert : Cert) → One (RestsRefusal cert)
@@ -94,19 +80,12 @@ instance_one one image cert id l c (Some a) (Some b) h g =
     let same : h.0 ≡ g.0 = cc in
     ap (λ w. Some w) (h.2 ∙ (ap (λ f. PointWhy id l c f) same ∙ sym g.2))
 
-line_one : OneLocal → (image : FinMap nat_cmp ℕ) (cert : Cert) (id : ℕ) (point : Point) (l : ℕ) → One (LineRefusal image cert id point l)
-unfolding LineRefusal
-line_one one image cert id point l = first_one (InstanceRefusal image cert id l) point.c0 _ (instance_one one image cert id l)
-
-point_one : OneLocal → (image : FinMap nat_cmp ℕ) (cert : Cert) (id : ℕ) (point : Point) → One (PointRefusal image cert id point)
-unfolding PointRefusal
-point_one one image cert id point = first_one (LineRefusal image cert id point) point.l0 _ (line_one one image cert id point)
-
 point_at_one : OneLocal → (image : FinMap nat_cmp ℕ) (cert : Cert) (id : ℕ)
     → One (λ o. (point : Point) × (slice_get cert.points id ≡ Some point) × PointRefusal image cert id point o)
+unfolding PointRefusal LineRefusal
 point_at_one one image cert id a b (point, found, h) (other, there, g) =
-    let same = same_some (slice_get cert.points id) other point there found in
-    point_one one image cert id point a b h (subst (λ p. PointRefusal image cert id p b) same g)
+    first_one (LineRefusal image cert id point) point.l0 _ (λ l. first_one (InstanceRefusal image cert id l) point.c0 _
+    (instance_one one image cert id l)) a b h (subst (λ p. PointRefusal image cert id p b) (same_Some other point (sym there ∙ found)) g)
 
 points_one : OneLocal → (image : FinMap nat_cmp ℕ) (cert : Cert) → One (PointsRefusal image cert)
 unfolding PointsRefusal
@@ -126,55 +105,45 @@ verdict_is_one image cert a b h g = one_refusal local_is_unique image cert a b h
 
 -- Nothing refuses where the rules hold
 
-schedule_accepts : (cert : Cert) (image : FinMap nat_cmp ℕ) → Accepts image cert → ScheduleRefusal cert.schedule None
-unfolding ScheduleRefusal
-schedule_accepts cert image h = sym (ap (option_map (λ place. Schedule place.0 place.1)) (steady_told cert.schedule h.steady))
+-- what a box's test says
+pub record InBox (point : Point) (l c : ℕ) : Type 0 where
+  pub line : point.l0 ≤ l
+  pub line_end : l ≤ point.l1
+  pub count : point.c0 ≤ c
+  pub count_end : c ≤ point.c1
 
-rest_accepts : (cert : Cert) (rest : Rest) → RestPasses cert rest → RestRefusal cert rest None
-unfolding RestRefusal
-rest_accepts cert rest h = h
+pub box_told : (point : Point) (l c : ℕ) → InBox point l c → is_in_box point l c ≡ true
+box_told point l c h = rw (le-leb point.l0 l h.line, le-leb l point.l1 h.line_end, le-leb point.c0 c h.count, le-leb c point.c1 h.count_end)
+    refl
+
+pub in_list : {A : Type 0} (xs : List A) (i : ℕ) (x : A) → slice_get xs i ≡ Some x → Contains xs x
+in_list xs i x e = (i, slice_get_within xs i x e, get_or_from_slice_get xs i x _ e)
 
 there : {A : Type 0} (xs : List A) (i : ℕ) → i < length xs → (x : A) × (slice_get xs i ≡ Some x)
 there [] i h = absurd (omega (arith, h))
 there (x ∷ xs) zero h = (x, refl)
 there (x ∷ xs) (suc i) h = there xs i (omega (arith, h))
 
-rests_accept : (cert : Cert) (image : FinMap nat_cmp ℕ) → Accepts image cert → RestsRefusal cert None
-unfolding RestsRefusal
-rests_accept cert image h i low high =
-    let at = there cert.rests i (omega (arith, high)) in
-    (at.0, at.1, rest_accepts cert at.0 (h.rests at.0 (in_list cert.rests i at.0 at.1)))
-
-entry_accepts : (cert : Cert) (image : FinMap nat_cmp ℕ) → Accepts image cert → EntryRefusal cert None
-unfolding EntryRefusal
-entry_accepts cert image h = h.entry
-
-instance_accepts : (image : FinMap nat_cmp ℕ) (cert : Cert) (id l c : ℕ) → IsLocal image cert id l c None → InstanceRefusal image cert id l
-    c None
-unfolding InstanceRefusal
-instance_accepts image cert id l c h = h
-
-line_accepts : (image : FinMap nat_cmp ℕ) (cert : Cert) (id : ℕ) (point : Point) (l : ℕ) → Accepts image cert → slice_get cert.points
-    id ≡ Some point → point.l0 ≤ l → l ≤ point.l1 → LineRefusal image cert id point l None
-unfolding LineRefusal
-line_accepts image cert id point l h found line line_end c low high =
-    instance_accepts image cert id l c
-    (h.points id l c point found (box_told point l c
-    (record { line = line; line_end = line_end; count = low; count_end = omega (arith, high, low) })))
-
-point_accepts : (image : FinMap nat_cmp ℕ) (cert : Cert) (id : ℕ) (point : Point) → Accepts image cert → slice_get cert.points id ≡ Some
-    point → PointRefusal image cert id point None
-unfolding PointRefusal
-point_accepts image cert id point h found l low high = line_accepts image cert id point l h found low (omega (arith, high, low))
-
-points_accept : (image : FinMap nat_cmp ℕ) (cert : Cert) → Accepts image cert → PointsRefusal image cert None
-unfolding PointsRefusal
-points_accept image cert h id low high =
-    let at = there cert.points id (omega (arith, high)) in
-    (at.0, at.1, point_accepts image cert id at.0 h at.1)
-
 pub accepted_none : (image : FinMap nat_cmp ℕ) (cert : Cert) → Accepts image cert → FirstRefusal image cert None
+unfolding ScheduleRefusal RestsRefusal RestRefusal EntryRefusal PointsRefusal PointRefusal LineRefusal InstanceRefusal
 accepted_none image cert h = (
-  schedule_accepts cert image h,
-  (rests_accept cert image h, (entry_accepts cert image h, points_accept image cert h)),
+  sym (ap (option_map (λ place. Schedule place.0 place.1)) (steady_told cert.schedule h.steady)),
+  (
+    λ i low high. let at = there cert.rests i (omega (arith, high)) in (at.0, at.1, h.rests at.0 (in_list cert.rests i at.0 at.1)),
+    (
+      h.entry,
+      λ id low high.
+          let at = there cert.points id (omega (arith, high)) in (
+            at.0,
+            at.1,
+            λ l line line_end c count count_end.
+                h.points id l c at.0 at.1 (box_told at.0 l c (record {
+                  line = line;
+                  line_end = omega (arith, line, line_end);
+                  count = count;
+                  count_end = omega (arith, count, count_end);
+                })),
+          ),
+    ),
+  ),
 )

@@ -1,10 +1,8 @@
 -- Where an edge stands among others, by its clock.
-use Rattle.std.proofs.Common.{◌≡◌, inl, inr, ℕ, ◌≤◌, List, [], ◌∷◌, ◌++◌, sym, ◌∙◌, ap, subst, arith}
-use Rattle.std.specs.Prelude.{reverse}
-use Rattle.std.proofs.lemmas.List.{reverse-append, reverse-reverse}
-use Rattle.uz_core.specs.declared.machine.Edge.{Edge}
-use Rattle.uz_console.specs.Runs.{AreTimed}
-use Rattle.uz_scan.specs.Pictures.{newest_first}
+use Rattle.uz_check.proofs.Common.{◌≡◌, inl, inr, ℕ, ◌≤◌, List, [], ◌∷◌, ◌++◌, sym, ◌∙◌, ap, subst, arith, reverse-append, Edge, AreTimed}
+use Rattle.uz_check.proofs.Common.{newest_first}
+use Rattle.std.proofs.Common.{reverse}
+use Rattle.std.proofs.lemmas.List.{reverse-reverse}
 use Rattle.uz_check.proofs.EventLists.{Among, among_both, among_left, among_right}
 use Rattle.uz_check.proofs.RunParts.{timed_ends}
 

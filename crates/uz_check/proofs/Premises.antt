@@ -1,32 +1,13 @@
 -- What the induction takes: what acceptance gives of each instance, of each rest and of the entry, and the laws of the rules.
-use Rattle.std.specs.Prelude.{◌≡◌, Contains, ℕ, ◌+◌, ◌%◌, ◌<◌, ◌≤◌, Bool, true, false, List, Option, Some, None, Ok}
-use Rattle.std.specs.Ordering.{nat_cmp}
-use Rattle.std.specs.FinMap.{FinMap}
-use Rattle.uz_hex.specs.Cells.{word_of}
-use Rattle.avr_table.specs.declared.Instr.{Instr}
-use Rattle.avr_table.specs.Rows.{Reads}
-use Rattle.uz_core.specs.Effects.{effect_of}
-use Rattle.uz_schedule.specs.Schedule.{length_of, start_of, next_line, event_at, response_clocks}
-use Rattle.uz_schedule.specs.declared.kinds.Kind.{Kind}
-use Rattle.uz_schedule.specs.declared.kinds.Kind.TheVariants.{Main, Handler, Alone}
-use Rattle.uz_schedule.specs.declared.states.Rest.{Rest}
-use Rattle.uz_schedule.specs.declared.states.Instance.{Instance}
-use Rattle.uz_schedule.specs.declared.certificate.Cert.{Cert}
-use Rattle.uz_transfer.specs.declared.step.Exit.{Exit}
-use Rattle.uz_transfer.specs.declared.step.Step.{Step}
-use Rattle.uz_rules.specs.Inside.{inside, cells_inside, restored, StateInside}
-use Rattle.uz_rules.specs.Successors.{LiesInPoint}
+use Rattle.uz_check.proofs.Common.{Goes, Running, Invariant, clock_of, State, PadHistory, Edge, ◌≡◌, Contains, ℕ, ◌+◌, ◌%◌, ◌<◌, ◌≤◌, Bool}
+use Rattle.uz_check.proofs.Common.{true, false, List, Option, Some, None, Ok, nat_cmp, FinMap, word_of, Instr, Reads, effect_of, length_of}
+use Rattle.uz_check.proofs.Common.{start_of, next_line, event_at, response_clocks, Kind, Main, Handler, Alone, Rest, Instance, Cert, Exit}
+use Rattle.uz_check.proofs.Common.{Step, inside, cells_inside, restored, StateInside, LiesInPoint, passes, shown_at, listed, narrowed}
+use Rattle.uz_check.proofs.Common.{IsStep, successor, main_emits, scheduled, order_of, position_of, instance_at, entry_instance}
+use Rattle.uz_check.proofs.Common.{rest_instance}
+use Rattle.uz_check.proofs.Steps.{Comes}
 use Rattle.uz_rules.specs.CoverMeets.{CoverMeets}
-use Rattle.uz_rules.specs.Local.{passes}
-use Rattle.uz_rules.specs.Events.{shown_at, listed}
-use Rattle.uz_transfer.specs.Narrowed.{narrowed}
-use Rattle.uz_transfer.specs.Step.{IsStep, successor}
 use Rattle.uz_rules.specs.OneStep.{AloneContained, HandlerContained, MainContained}
-use Rattle.uz_transfer.specs.Emission.{main_emits}
-use Rattle.uz_check.specs.Claim.{scheduled}
-use Rattle.uz_schedule.specs.Lines.{order_of}
-use Rattle.uz_rules.specs.EdgeRule.{position_of}
-use Rattle.uz_schedule.specs.Instances.{instance_at, entry_instance, rest_instance}
 use Rattle.uz_check.proofs.Fits.{Limits}
 
 -- an instance lies in an instance of a point
@@ -102,3 +83,9 @@ pub record Premises (image : FinMap nat_cmp ℕ) (cert : Cert) : Type 0 where
   pub local : (id l c : ℕ) (inst : Instance) → instance_at cert id l c ≡ Some inst → LocalHolds image cert inst
   pub rests : (rest : Rest) → Contains cert.rests rest → RestHolds cert rest
   pub entry : IsCovered cert (entry_instance cert)
+
+-- What a turn leads to, and which way it goes
+pub record Turned (image : FinMap nat_cmp ℕ) (cert : Cert) (p : ℕ) (s : State PadHistory) (running : Running) (edges : List Edge)
+    (next : State PadHistory) : Type 0 where
+  pub follows : Comes clock_of (event_at cert.schedule) (Invariant image cert) p s 1 edges next
+  pub goes : Goes cert s next follows.clocks running follows.meets.running edges

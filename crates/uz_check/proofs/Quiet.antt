@@ -1,14 +1,9 @@
 -- What the schedule has along a stretch, and the level after it.
-use Rattle.std.proofs.Common.{◌≡◌, ℕ, zero, suc, ◌+◌, ◌%◌, ◌<◌, ◌≤◌, List, [], ◌∷◌, ◌++◌, refl, sym, ◌∙◌, ap, arith}
-use Rattle.std.specs.Prelude.{Option, Some, None}
-use Rattle.uz_schedule.specs.declared.lines.EventKind.{EventKind}
-use Rattle.uz_schedule.specs.declared.lines.EventKind.TheVariants.{Sync, Pixel, Sound, Leave}
-use Rattle.uz_schedule.specs.declared.lines.Schedule.{Schedule}
-use Rattle.uz_schedule.specs.Schedule.{frame_of, event_at, sync_of, level_at, level_set, or_else}
+use Rattle.uz_check.proofs.Common.{◌≡◌, ℕ, zero, suc, ◌+◌, ◌%◌, ◌<◌, ◌≤◌, List, [], ◌∷◌, ◌++◌, refl, sym, ◌∙◌, ap, arith, Option, Some}
+use Rattle.uz_check.proofs.Common.{None, EventKind, Sync, Schedule, frame_of, event_at, sync_of, level_at, or_else, Shown, shown_at, listed}
+use Rattle.uz_check.proofs.Common.{level_after, scheduled}
+use Rattle.uz_schedule.specs.Schedule.{level_set}
 use Rattle.uz_schedule.proofs.Modulo.{event_at_mod, mod_shift, level_step}
-use Rattle.uz_rules.specs.Events.{Shown, shown_at, listed}
-use Rattle.uz_transfer.specs.Emission.{level_after}
-use Rattle.uz_check.specs.Claim.{scheduled}
 
 -- a stretch depends on its start modulo the frame
 pub scheduled_mod : (s : Schedule) (p q k c : ℕ) → p % frame_of s ≡ q % frame_of s → scheduled (event_at s) p k c ≡ scheduled (event_at s) q
@@ -52,8 +47,5 @@ level_along s p k (suc c) some =
 
 -- the level after one event, or none
 pub last_in_listed : (event : Option EventKind) (k v : ℕ) → last_in (listed (shown_at event k)) (Some v) ≡ Some (level_after event v)
-last_in_listed None k v = refl
 last_in_listed (Some (Sync u)) k v = refl
-last_in_listed (Some Pixel) k v = refl
-last_in_listed (Some Sound) k v = refl
-last_in_listed (Some Leave) k v = refl
+last_in_listed event k v = refl

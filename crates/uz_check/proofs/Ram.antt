@@ -1,24 +1,16 @@
--- Addresses of RAM, 0x100 to 0x10FF: what is read, stored and seen there.
-use Rattle.std.proofs.Common.{◌≡◌, ◌≢◌, ℕ, ◌-◌, ◌/◌, ◌%◌, ◌<◌, ◌≤◌, true, false, eqb, ltb, [], length, refl, sym, ◌∙◌, ap, arith}
-use Rattle.std.specs.Prelude.{slice_index, slice_set}
-use Rattle.std.proofs.lemmas.Bool.Decides.{nat_tests}
+-- Addresses of RAM, 0x100 to 0x10FF: what is read, stored and seen there. And SREG with bit 7 set or cleared.
+use Rattle.uz_check.proofs.Common.{le-ltb, eq-eqb, ◌≡◌, ℕ, ◌^◌, ◌<◌, true, false, nat_eq, ap, arith, bit_at, bit_is_set, with_bit, ◌≢◌, ◌-◌}
+use Rattle.uz_check.proofs.Common.{◌/◌, ◌%◌, ◌≤◌, eqb, [], length, refl, sym, ◌∙◌, slice_index, slice_set, nat_tests, Byte, is_core_address}
+use Rattle.uz_check.proofs.Common.{Timer, PadHistory, Space, PadWiring, plain_byte, with_plain_byte, after_byte, State, sync_level}
+use Rattle.uz_check.proofs.Common.{edge_kinds, pushed}
+use Rattle.std.proofs.lemmas.Nat.Bits.{bit_at-lt, bit_at_and, bit_at_or, bit_at_ones, bit_at_ones_above, bit_at-pow_same, bit_at-pow_other}
+use Rattle.std.proofs.Common.{bit_and, bit_or}
 use Rattle.std.proofs.lemmas.List.{length-set, get_or-set_same, get_or-set_other}
-use Rattle.uz_core.specs.declared.machine.HeldStore.TheVariants.{Byte}
-use Rattle.uz_core.specs.Core.{is_core_address}
-use Rattle.uz_core.specs.Timer.{Timer, is_timer_address, timer_after_read}
-use Rattle.uz_core.specs.PadLine.{PadHistory}
-use Rattle.uz_core.specs.Space.{Space, PadWiring, is_pin, plain_byte, with_plain_byte, byte_at, after_byte}
-use Rattle.uz_core.specs.Turn.{State, sync_level, edge_kinds}
-use Rattle.uz_check.specs.Invariant.{pushed}
+use Rattle.uz_core.specs.Timer.{is_timer_address, timer_after_read}
+use Rattle.uz_core.specs.Space.{is_pin, byte_at}
 
 pub other : (a n : ℕ) → n < a → eqb a n ≡ false
 other a n h = grind (arith, nat_tests)
-
-same : (a b : ℕ) → a ≡ b → eqb a b ≡ true
-same a b h = grind (arith, nat_tests)
-
-not_below : (a n : ℕ) → n ≤ a → ltb a n ≡ false
-not_below a n h = grind (arith, nat_tests)
 
 pub off_core : (a : ℕ) → 256 ≤ a → is_core_address a ≡ false
 off_core a h = grind (arith, nat_tests)
@@ -39,7 +31,7 @@ off_pins : (a : ℕ) → 256 ≤ a → is_pin a ≡ false
 off_pins a h = rw (other a 0x23 (omega arith), other a 0x26 (omega arith), other a 0x29 (omega arith)) refl
 
 pub ram_read : {P : Type 0} → (w : PadWiring P) (space : Space P) (a : ℕ) → 256 ≤ a → a ≤ 4351 → byte_at w space a ≡ plain_byte space a
-ram_read w space a low high = rw (other a 0x20 (omega arith), off_pins a low, off_timer a low, not_below 0x10FF a high) refl
+ram_read w space a low high = rw (other a 0x20 (omega arith), off_pins a low, off_timer a low, le-ltb 0x10FF a high) refl
 
 pub ram_stored : {P : Type 0} → (w : PadWiring P) (space : Space P) (a v : ℕ) → 256 ≤ a → a ≤ 4351 → after_byte w a v
     space ≡ with_plain_byte a v space
@@ -48,7 +40,7 @@ ram_stored w space a v low high = rw (
   other a 0x22 (omega arith),
   off_pins a low,
   off_timer a low,
-  not_below 0x10FF a high,
+  le-ltb 0x10FF a high,
 ) refl
 
 -- no register of the timer is read
@@ -61,7 +53,7 @@ ram_level space a v h = ap (λ x. x % 2) (get_or-set_other space.bytes a 0x25 v 
 pub ram_unseen : {P : Type 0} → (space : Space P) (a v : ℕ) → 256 ≤ a → edge_kinds (Byte a v) space (with_plain_byte a v space) ≡ []
 ram_unseen space a v h =
     rw (
-      same (sync_level space) (sync_level (with_plain_byte a v space)) (sym (ram_level space a v h)),
+      eq-eqb (sync_level space) (sync_level (with_plain_byte a v space)) (sym (ram_level space a v h)),
       other a 0x28 (omega arith),
       other a 0x26 (omega arith),
       other a 0xB3 (omega arith),
@@ -88,3 +80,30 @@ pushed_off s a h g =
 
 pub pushed_level : (s : State PadHistory) → 257 ≤ s.core.sp → slice_index (pushed s) 0x25 % 2 ≡ sync_level s.space
 pushed_level s h = ap (λ x. x % 2) (pushed_off s 0x25 (λ e. omega (arith, e, h)) (λ e. omega (arith, e, h)))
+
+-- SREG with bit 7 set or cleared
+
+pub set_seven : (n : ℕ) → bit_is_set (with_bit 7 true n) 7 ≡ true
+set_seven n =
+    let e : bit_at (bit_or n (2 ^ 7)) 7 ≡ 1 = omega (arith, bit_at_or n (2 ^ 7) 7, bit_at-pow_same 7, bit_at-lt n 7) in
+    ap (λ x. nat_eq x 1) e
+
+pub clear_seven : (n : ℕ) → bit_is_set (with_bit 7 false n) 7 ≡ false
+clear_seven n =
+    let e : bit_at (bit_and n 127) 7 ≡ 0 = omega (arith, bit_at_and n 127 7, bit_at_ones_above 7 7 (omega arith)) in
+    ap (λ x. nat_eq x 1) e
+
+pub set_others : (n k : ℕ) → k < 7 → bit_is_set (with_bit 7 true n) k ≡ bit_is_set n k
+set_others n k h =
+    let e : bit_at (bit_or n (2 ^ 7)) k ≡ bit_at n k = omega (
+      arith,
+      bit_at_or n (2 ^ 7) k,
+      bit_at-pow_other 7 k (λ e. omega (arith, e, h)),
+      bit_at-lt n k,
+    ) in
+    ap (λ x. nat_eq x 1) e
+
+pub clear_others : (n k : ℕ) → k < 7 → bit_is_set (with_bit 7 false n) k ≡ bit_is_set n k
+clear_others n k h =
+    let e : bit_at (bit_and n 127) k ≡ bit_at n k = omega (arith, bit_at_and n 127 k, bit_at_ones 7 k h, bit_at-lt n k) in
+    ap (λ x. nat_eq x 1) e

@@ -1,25 +1,12 @@
 -- The returns of a run are those of the schedule.
-use Rattle.std.proofs.Common.{◌≡◌, inl, inr, ℕ, zero, suc, ◌+◌, ◌-◌, ◌<◌, ◌≤◌, List, [], ◌∷◌, ◌++◌, refl}
-use Rattle.std.proofs.Common.{sym, ◌∙◌, ap, subst, arith}
-use Rattle.std.specs.Prelude.{⊤, Option, Some, None}
-use Rattle.std.specs.Ordering.{nat_cmp}
-use Rattle.std.specs.FinMap.{FinMap}
-use Rattle.std.proofs.lemmas.List.Elements.{filter_map-append}
-use Rattle.uz_schedule.specs.declared.certificate.Cert.{Cert}
-use Rattle.uz_schedule.specs.declared.lines.EventKind.{EventKind}
+use Rattle.uz_check.proofs.Common.{leb, ◌≡◌, inl, inr, ℕ, zero, suc, ◌+◌, ◌-◌, ◌<◌, ◌≤◌, List, [], ◌∷◌, ◌++◌, refl, sym, ◌∙◌, ap, subst}
+use Rattle.uz_check.proofs.Common.{arith, ⊤, Option, Some, None, nat_cmp, FinMap, filter_map-append, Cert, EventKind, event_at, Edge}
+use Rattle.uz_check.proofs.Common.{EdgeKind, edges_until, Shown, event_of, listed, shown, shown_at, scheduled, Certified}
+use Rattle.uz_check.proofs.EventLists.{shown_filtered, Among, among_right, edge_shown, event_edge, scheduled_has, scheduled_stands}
 use Rattle.uz_schedule.specs.declared.lines.EventKind.TheVariants.{Leave}
-use Rattle.uz_schedule.specs.Schedule.{event_at}
-use Rattle.uz_core.specs.declared.machine.Edge.{Edge}
-use Rattle.uz_core.specs.declared.machine.EdgeKind.{EdgeKind}
-use Rattle.uz_core.specs.declared.machine.EdgeKind.TheVariants as edge
-use Rattle.uz_core.specs.Run.{edges_until}
-use Rattle.uz_rules.specs.Events.{Shown, event_of, listed, shown, shown_at}
-use Rattle.uz_check.specs.Claim.{scheduled}
-use Rattle.uz_check.specs.Certified.{Certified}
 use Rattle.uz_check.specs.ReturnTimes.{HasReturn, IsReturnDue, ReturnsInTime, ReturnsHold, return_at}
-use Rattle.uz_check.proofs.ClockRuns.{shown_until}
-use Rattle.uz_check.proofs.EventLists.{Among, among_right, edge_shown, event_edge, scheduled_has, scheduled_stands}
 use Rattle.uz_check.proofs.RunParts.{all_in_time, timed_ends, turns_timed}
+use Rattle.uz_core.specs.declared.machine.EdgeKind.TheVariants as edge
 
 -- Clocks of a stretch rise
 
@@ -70,7 +57,8 @@ return_kind (edge.Enter count) is = absurd (cc is)
 return_kind edge.Leave is = refl
 
 edge_is : (clock n : ℕ) (kind : EdgeKind) → n ≡ clock → kind ≡ edge.Leave → record { clock = n; kind = kind } ≡ return_at clock
-edge_is clock n kind at is = ap (λ (m : ℕ). record { clock = m; kind = kind }) at ∙ ap (λ (k : EdgeKind). record { clock = clock; kind = k }) is
+edge_is clock n kind at is = ap (λ (m : ℕ). record { clock = m; kind = kind }) at
+    ∙ ap (λ (k : EdgeKind). record { clock = clock; kind = k }) is
 
 -- Of a whole run
 
@@ -123,6 +111,6 @@ returns_hold image cert h s p n edges end is_state flash entry run =
     let whole : s.clock ≤ end.clock = timed_ends s.clock end.clock edges timed in
     let to : s.clock + T ≡ end.clock = omega (arith, whole) in
     let all : edges_until (s.clock + T) edges ≡ edges = all_in_time (s.clock + T) s.clock end.clock edges timed (omega (arith, to)) in
-    let exact = sym (ap shown all) ∙ (shown_until (s.clock + T) edges
+    let exact = sym (ap shown all) ∙ (shown_filtered (λ k. leb k (s.clock + T)) edges
     ∙ (h s p is_state flash entry T).exact n edges end run (omega (arith, to))) in
     in_time cert s.clock p end.clock edges whole exact

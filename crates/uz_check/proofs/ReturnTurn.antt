@@ -1,16 +1,8 @@
 -- A RETI, where the return address is in RAM.
-use Rattle.std.proofs.Common.{◌≡◌, ℕ, ◌+◌, ◌*◌, ◌%◌, ◌≤◌, true, List, [], ◌∷◌, refl, arith}
-use Rattle.std.specs.Prelude.{slice_index}
-use Rattle.avr_table.specs.declared.Instr.{Instr}
-use Rattle.avr_table.specs.declared.Instr.TheVariants.{Reti}
-use Rattle.uz_core.specs.declared.machine.Effect.TheVariants.{Return}
-use Rattle.uz_core.specs.Arithmetic.{with_bit}
-use Rattle.uz_core.specs.Effects.{effect_of}
-use Rattle.uz_core.specs.Core.{Core, returns_from_interrupt, loaded_bytes, content_after_loads, load_addresses}
-use Rattle.uz_core.specs.Timer.{timer_after}
-use Rattle.uz_core.specs.PadLine.{PadHistory}
-use Rattle.uz_core.specs.Space.{Space, history_wiring, space_after, space_loads}
-use Rattle.uz_core.specs.Turn.{State, after_instruction}
+use Rattle.uz_check.proofs.Common.{◌≡◌, ℕ, ◌+◌, ◌*◌, ◌%◌, ◌≤◌, true, List, [], ◌∷◌, refl, arith, slice_index, Instr, Reti, Return, with_bit}
+use Rattle.uz_check.proofs.Common.{effect_of, Core, returns_from_interrupt, content_after_loads, load_addresses, timer_after, PadHistory}
+use Rattle.uz_check.proofs.Common.{Space, history_wiring, space_after, space_loads, State, after_instruction}
+use Rattle.uz_core.specs.Core.{loaded_bytes}
 use Rattle.uz_check.proofs.Ram.{off_core, ram_read, ram_timer}
 
 -- RETI alone returns from an interrupt

@@ -1,14 +1,8 @@
 -- The clocks of a run's edges, and a run in two parts.
-use Rattle.std.proofs.Common.{◌≡◌, ◌⊎◌, inl, inr, ℕ, zero, suc, ◌+◌, ◌<◌, ◌≤◌, Bool, true, false, cond, leb, List, [], ◌∷◌, ◌++◌}
-use Rattle.std.proofs.Common.{append_assoc, refl, sym, ◌∙◌, ap, subst, arith}
-use Rattle.std.proofs.lemmas.Bool.Decides.{leb_tells}
-use Rattle.uz_core.specs.declared.machine.Edge.{Edge}
-use Rattle.uz_core.specs.declared.machine.EdgeKind.{EdgeKind}
-use Rattle.uz_core.specs.PadLine.{PadHistory}
-use Rattle.uz_core.specs.Space.{history_wiring}
-use Rattle.uz_core.specs.Turn.{State, Turn, edges_at, entry_edges, instruction_edges}
-use Rattle.uz_core.specs.Run.{HasNoTurn, Run, TurnBefore, edges_until}
-use Rattle.uz_console.specs.Runs.{AreTimed}
+use Rattle.uz_check.proofs.Common.{◌≡◌, ◌⊎◌, inl, inr, ℕ, zero, suc, ◌+◌, ◌<◌, ◌≤◌, Bool, true, false, cond, leb, List, [], ◌∷◌, ◌++◌}
+use Rattle.uz_check.proofs.Common.{append_assoc, refl, sym, ◌∙◌, ap, subst, arith, leb_tells, Edge, EdgeKind, PadHistory, history_wiring}
+use Rattle.uz_check.proofs.Common.{State, Turn, edges_at, entry_edges, instruction_edges, Run, TurnBefore, edges_until, AreTimed}
+use Rattle.uz_core.specs.Run.{HasNoTurn}
 use Rattle.uz_console.proofs.RunLaws.{turn_is_unique}
 
 -- Clocks

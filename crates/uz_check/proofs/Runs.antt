@@ -1,11 +1,7 @@
 -- Runs of lines of which the conditions on lines hold.
-use Rattle.std.proofs.Common.{◌≡◌, inl, inr, ℕ, zero, suc, ◌+◌, ◌<◌, true, false, nat_lt, Some, Option, List, [], ◌∷◌, length, refl, sym}
-use Rattle.std.proofs.Common.{◌∙◌, ap, subst, arith}
-use Rattle.std.specs.Prelude.{slice_get, slice_set}
-use Rattle.std.proofs.lemmas.Bool.Decides.{eqb_tells, leb_tells}
-use Rattle.uz_schedule.specs.declared.certificate.Cert.{Cert}
-use Rattle.uz_check.specs.Folding.{lines_alike}
-use Rattle.uz_check.specs.Untold.{IsRun, RunsFrom}
+use Rattle.uz_check.proofs.Common.{same_Some, ◌≡◌, inl, inr, ℕ, zero, suc, ◌+◌, ◌<◌, true, false, nat_lt, Some, List, [], ◌∷◌, length, refl}
+use Rattle.uz_check.proofs.Common.{sym, ◌∙◌, ap, subst, arith, slice_get, slice_set, eqb_tells, leb_tells, Cert, lines_alike, IsRun}
+use Rattle.uz_check.proofs.Common.{RunsFrom}
 
 -- One more line, at the front
 
@@ -64,14 +60,11 @@ runs_more cert runs l e h run noted k low high =
 
 -- What is noted
 
-same_some : {A : Type 0} (o : Option A) (a b : A) → o ≡ Some a → o ≡ Some b → a ≡ b
-same_some o a b e f = cc
-
 pub run_of : (cert : Cert) (runs : List ℕ) (l e : ℕ) → RunsFrom cert runs 0 → l < length cert.schedule.lines → slice_get runs l ≡ Some e
     → IsRun cert (length cert.schedule.lines) l e
 run_of cert runs l e noted h is =
     let run = noted l (omega arith) h in
-    subst (IsRun cert (length cert.schedule.lines) l) (same_some (slice_get runs l) run.0 e run.1 is) run.2
+    subst (IsRun cert (length cert.schedule.lines) l) (same_Some run.0 e (sym run.1 ∙ is)) run.2
 
 pub alike_tells : (cert : Cert) (runs : List ℕ) (l e : ℕ) → RunsFrom cert runs 0 → l < length cert.schedule.lines → slice_get runs l ≡ Some
     e → nat_lt l e ≡ lines_alike cert l

@@ -1,56 +1,37 @@
 -- The abstract step of an instance looks at no line but for the lengths of it and of the next: at another line where these are
 -- the same it is the same step.
-use Rattle.std.proofs.Common.{◌≡◌, ℕ, ◌+◌, ◌≤◌, Bool, true, false, not, if◌then◌else◌, nat_eq, nat_le, nat_lt, Option, Some, None, List, []}
-use Rattle.std.proofs.Common.{◌∷◌, ◌++◌, suc, map, refl, sym, ◌∙◌, ap, arith}
-use Rattle.std.specs.Prelude.{◌&&◌, ◌||◌, ◌%◌, ◌-◌, ◌*◌, ⊤, Result, Ok, Err}
-use Rattle.std.specs.Ordering.{nat_cmp}
-use Rattle.std.specs.FinMap.{FinMap}
-use Rattle.std.proofs.lemmas.Bool.Decides.{nat_tests}
-use Rattle.avr_table.specs.declared.Instr.{Instr}
+use Rattle.uz_check.proofs.Common.{each_exit, ◌≡◌, ℕ, ◌+◌, ◌≤◌, Bool, true, false, not, if◌then◌else◌, nat_eq, nat_le, nat_lt, Option, Some}
+use Rattle.uz_check.proofs.Common.{None, List, [], ◌∷◌, ◌++◌, suc, map, refl, sym, ◌∙◌, ap, arith, ◌&&◌, ◌||◌, ◌%◌, ◌-◌, ◌*◌, ⊤, Result, Ok}
+use Rattle.uz_check.proofs.Common.{Err, nat_cmp, FinMap, nat_tests, Instr, clocks_of, Effect, Store, Return, Stop, returns_from_interrupt}
+use Rattle.uz_check.proofs.Common.{sample_clock, effect_of, Ends, Lines, line_after, Nothing, Val, Head, EventKind, Instance, is_single}
+use Rattle.uz_check.proofs.Common.{Fail, Exit, Step, knows_comparisons, with_compared, span_of, value_at, cell_place, is_main, is_handler}
+use Rattle.uz_check.proofs.Common.{address_range, main_emits, level_after, fail_of, keeps_time, sets_ahead, returns_with_top, is_in_time}
+use Rattle.uz_check.proofs.Common.{clock_holds, handler_stores, stores_top, step_unless, step_of_row, is_stop}
+use Rattle.uz_core.specs.declared.machine.Operand.TheVariants.{Constant, Register}
 use Rattle.avr_table.specs.declared.Outcome.{Outcome}
 use Rattle.avr_table.specs.declared.Outcome.TheVariants.{Taken}
-use Rattle.avr_table.specs.Rows.{words_of, clocks_of}
+use Rattle.avr_table.specs.Rows.{words_of}
 use Rattle.uz_core.specs.declared.machine.AddressMode.{AddressMode}
-use Rattle.uz_core.specs.declared.machine.AddressMode.TheVariants.{Direct, Displacement, PostIncrement, PreDecrement}
+use Rattle.uz_core.specs.declared.machine.AddressMode.TheVariants.{Direct}
 use Rattle.uz_core.specs.declared.machine.BinaryOp.{BinaryOp}
-use Rattle.uz_core.specs.declared.machine.BinaryOp.TheVariants as binary
-use Rattle.uz_core.specs.declared.machine.UnaryOp.TheVariants as unary
 use Rattle.uz_core.specs.declared.machine.Operand.{Operand}
-use Rattle.uz_core.specs.declared.machine.Operand.TheVariants.{Register, Constant}
-use Rattle.uz_core.specs.declared.machine.SkipTest.TheVariants.{Equal, RegisterBit, IoBit}
-use Rattle.uz_core.specs.declared.machine.JumpTarget.TheVariants.{Absolute, Relative, Indirect}
-use Rattle.uz_core.specs.declared.machine.Effect.{Effect}
-use Rattle.uz_core.specs.declared.machine.Effect.TheVariants.{CopyByte, Binary, Unary, Load, Store, LoadProgram, Branch, SkipIf, Jump, Return}
-use Rattle.uz_core.specs.declared.machine.Effect.TheVariants.{Stop, NoOperation}
-use Rattle.uz_core.specs.Core.{returns_from_interrupt, sample_clock}
-use Rattle.uz_core.specs.Effects.{effect_of}
+use Rattle.uz_core.specs.declared.machine.SkipTest.TheVariants.{Equal}
+use Rattle.uz_core.specs.declared.machine.JumpTarget.TheVariants.{Absolute}
+use Rattle.uz_core.specs.declared.machine.Effect.TheVariants.{CopyByte, Binary, Unary, Load, LoadProgram, Branch, SkipIf, Jump}
 use Rattle.uz_core.proofs.RowClocks.{stops, clocks_within}
-use Rattle.uz_schedule.specs.Ends.{Ends}
-use Rattle.uz_schedule.specs.Lines.{Lines, line_after, clock_after}
 use Rattle.uz_schedule.specs.declared.facts.Compared.{Compared}
-use Rattle.uz_schedule.specs.declared.facts.Compared.TheVariants.{Nothing}
-use Rattle.uz_schedule.specs.declared.facts.Val.{Val}
-use Rattle.uz_schedule.specs.declared.header.Head.{Head}
-use Rattle.uz_schedule.specs.declared.lines.EventKind.{EventKind}
-use Rattle.uz_schedule.specs.declared.states.Instance.{Instance}
-use Rattle.uz_range.specs.Answers.{is_single}
-use Rattle.uz_transfer.specs.declared.fail.Fail.{Fail}
-use Rattle.uz_transfer.specs.declared.step.Exit.{Exit}
-use Rattle.uz_transfer.specs.declared.step.Step.{Step}
 use Rattle.uz_transfer.specs.declared.step.Test.{Test}
 use Rattle.uz_transfer.specs.Narrowed.{test_of}
-use Rattle.uz_transfer.specs.Compared.{past_pointer, may_be_sreg, told_by, told_after, knows_comparisons, compared_after, with_compared}
-use Rattle.uz_transfer.specs.Values.{span_of, value_at, with_flag_list}
-use Rattle.uz_transfer.specs.Kinds.{cell_place, is_main, is_handler}
-use Rattle.uz_transfer.specs.Memory.{address_range, with_pointer_range, flags_from, with_cell, stored_in}
+use Rattle.uz_transfer.specs.Compared.{past_pointer, may_be_sreg, told_by, told_after, compared_after}
+use Rattle.uz_transfer.specs.Values.{with_flag_list}
+use Rattle.uz_transfer.specs.Memory.{with_pointer_range, flags_from, with_cell, stored_in}
 use Rattle.uz_transfer.specs.Transfer.{transfer}
-use Rattle.uz_transfer.specs.Exits.{outcomes, targets, each_exit}
-use Rattle.uz_transfer.specs.Emission.{emission, main_emits, level_after}
-use Rattle.uz_transfer.specs.Refusals.{fail_of}
-use Rattle.uz_transfer.specs.InTime.{keeps_time, sets_ahead, returns_with_top, is_in_time, clock_holds}
-use Rattle.uz_transfer.specs.Timer.{handler_stores, stores_top, top_after, temp_loaded, temp_after, with_timer}
-use Rattle.uz_transfer.specs.Step.{exits_of, clears_flag, following_of, sampled_of, step_unless, step_of, step_of_row, at_exit}
-use Rattle.uz_rules.specs.Local.{is_stop}
+use Rattle.uz_transfer.specs.Exits.{outcomes, targets}
+use Rattle.uz_transfer.specs.Emission.{emission}
+use Rattle.uz_transfer.specs.Timer.{top_after, temp_loaded, temp_after, with_timer}
+use Rattle.uz_transfer.specs.Step.{exits_of, clears_flag, following_of, sampled_of, step_of, at_exit}
+use Rattle.uz_core.specs.declared.machine.BinaryOp.TheVariants as binary
+use Rattle.uz_core.specs.declared.machine.UnaryOp.TheVariants as unary
 
 -- the same instance at line m
 abbrev pub at_line : ℕ → Instance → Instance
@@ -60,79 +41,51 @@ at_line m inst = record inst { line = m }
 
 address_moves : (to : AddressMode) (m : ℕ) (inst : Instance) → address_range to (at_line m inst) ≡ address_range to inst
 address_moves (Direct k) m inst = refl
-address_moves (Displacement p q) m inst = refl
-address_moves (PostIncrement p) m inst = refl
-address_moves (PreDecrement p) m inst = refl
+address_moves to m inst = refl
 
 emission_moves : (e : Effect) (m : ℕ) (inst : Instance) → emission e (at_line m inst) ≡ emission e inst
 emission_moves (Store (Direct k) r) m inst = refl
-emission_moves (Store (Displacement p q) r) m inst = refl
-emission_moves (Store (PostIncrement p) r) m inst = refl
-emission_moves (Store (PreDecrement p) r) m inst = refl
 emission_moves (Return true) m inst = refl
-emission_moves (Return false) m inst = refl
 emission_moves e m inst = refl
 
 fail_moves : (head : Head) (e : Effect) (m : ℕ) (inst : Instance) → fail_of head e (at_line m inst) ≡ fail_of head e inst
 fail_moves head (Store (Direct k) r) m inst = refl
-fail_moves head (Store (Displacement p q) r) m inst = refl
-fail_moves head (Store (PostIncrement p) r) m inst = refl
-fail_moves head (Store (PreDecrement p) r) m inst = refl
 fail_moves head (Jump (Absolute k) call) m inst = refl
-fail_moves head (Jump (Relative k) call) m inst = refl
-fail_moves head (Jump Indirect call) m inst = refl
 fail_moves head (Return true) m inst = refl
-fail_moves head (Return false) m inst = refl
 fail_moves head e m inst = refl
 
 clears_moves : (e : Effect) (m : ℕ) (inst : Instance) → clears_flag e (at_line m inst) ≡ clears_flag e inst
 clears_moves (Store (Direct k) r) m inst = refl
-clears_moves (Store (Displacement p q) r) m inst = refl
-clears_moves (Store (PostIncrement p) r) m inst = refl
-clears_moves (Store (PreDecrement p) r) m inst = refl
 clears_moves e m inst = refl
 
 pub main_emits_moves : (e : Effect) (m : ℕ) (inst : Instance) → main_emits e (at_line m inst) ≡ main_emits e inst
 main_emits_moves (Store (Direct k) r) m inst = refl
-main_emits_moves (Store (Displacement p q) r) m inst = refl
-main_emits_moves (Store (PostIncrement p) r) m inst = refl
-main_emits_moves (Store (PreDecrement p) r) m inst = refl
 main_emits_moves e m inst = refl
 
 outcomes_move : (image : FinMap nat_cmp ℕ) (following : ℕ) (e : Effect) (m : ℕ) (inst : Instance) → outcomes image following e
     (at_line m inst) ≡ outcomes image following e inst
 outcomes_move image following (SkipIf (Equal d r)) m inst = refl
-outcomes_move image following (SkipIf (RegisterBit r b set)) m inst = refl
-outcomes_move image following (SkipIf (IoBit at b set)) m inst = refl
 outcomes_move image following e m inst = refl
 
 targets_move : (e : Effect) (o : Outcome) (following m : ℕ) (inst : Instance) → targets e o following (at_line m inst) ≡ targets e o
     following inst
 targets_move (Jump (Absolute k) call) o following m inst = refl
-targets_move (Jump (Relative k) call) o following m inst = refl
-targets_move (Jump Indirect call) o following m inst = refl
 targets_move (Return true) o following m inst = refl
-targets_move (Return false) o following m inst = refl
 targets_move (Branch flag set offset) Taken following m inst = refl
 targets_move e o following m inst = refl
 
 exits_move : (e : Effect) (clocks : Outcome → ℕ) (following m : ℕ) (inst : Instance) (os : List Outcome) → exits_of e clocks following
     (at_line m inst) os ≡ exits_of e clocks following inst os
 exits_move e clocks following m inst [] = refl
-exits_move e clocks following m inst (o ∷ os) =
-    ap (λ pcs. map (λ pc. record { pc = pc; clocks = clocks o }) pcs ++ exits_of e clocks following (at_line m inst) os)
-    (targets_move e o following m inst)
-    ∙ ap (λ xs. map (λ pc. record { pc = pc; clocks = clocks o }) (targets e o following inst) ++ xs)
-    (exits_move e clocks following m inst os)
+exits_move e clocks following m inst (o ∷ os) = λ i.
+    map (λ pc. record { pc = pc; clocks = clocks o }) (targets_move e o following m inst i) ++ exits_move e clocks following m inst os i
 
 -- What it makes of the instance
 
 pointer_moves : (mode : AddressMode) (m : ℕ) (old now : Instance) → with_pointer_range mode (at_line m old) (at_line m now) ≡ at_line m
     (with_pointer_range mode old now)
 pointer_moves (Direct k) m old now = refl
-pointer_moves (Displacement p q) m old now = refl
-pointer_moves (PostIncrement p) m old now = refl
-pointer_moves (PreDecrement p) m old now = refl
+pointer_moves mode m old now = refl
 
 stored_moves : (head : Head) (a : Ends) (v : Val) (m : ℕ) (inst : Instance) → stored_in head a v (at_line m inst) ≡ at_line m
     (stored_in head a v inst)
@@ -150,48 +103,25 @@ stored_moves head a v m inst = by_case (is_single a) (nat_eq a.lo 0x5F) (cell_pl
 transfer_moves : (head : Head) (image : FinMap nat_cmp ℕ) (following sampled : ℕ) (e : Effect) (m : ℕ) (inst : Instance)
     → transfer head image following sampled e (at_line m inst) ≡ at_line m (transfer head image following sampled e inst)
 transfer_moves head image following sampled (CopyByte d (Register r)) m inst = refl
-transfer_moves head image following sampled (CopyByte d (Constant k)) m inst = refl
 transfer_moves head image following sampled (Binary (binary.Add false) d (Register r) true) m inst = refl
-transfer_moves head image following sampled (Binary (binary.Add false) d (Register r) false) m inst = refl
-transfer_moves head image following sampled (Binary (binary.Add false) d (Constant k) true) m inst = refl
-transfer_moves head image following sampled (Binary (binary.Add false) d (Constant k) false) m inst = refl
-transfer_moves head image following sampled (Binary (binary.Add true) d (Register r) true) m inst = refl
-transfer_moves head image following sampled (Binary (binary.Add true) d (Register r) false) m inst = refl
-transfer_moves head image following sampled (Binary (binary.Add true) d (Constant k) true) m inst = refl
-transfer_moves head image following sampled (Binary (binary.Add true) d (Constant k) false) m inst = refl
 transfer_moves head image following sampled (Binary (binary.Subtract false) d (Register r) true) m inst = refl
-transfer_moves head image following sampled (Binary (binary.Subtract false) d (Register r) false) m inst = refl
-transfer_moves head image following sampled (Binary (binary.Subtract false) d (Constant k) true) m inst = refl
-transfer_moves head image following sampled (Binary (binary.Subtract false) d (Constant k) false) m inst = refl
-transfer_moves head image following sampled (Binary (binary.Subtract true) d (Register r) true) m inst = refl
-transfer_moves head image following sampled (Binary (binary.Subtract true) d (Register r) false) m inst = refl
-transfer_moves head image following sampled (Binary (binary.Subtract true) d (Constant k) true) m inst = refl
-transfer_moves head image following sampled (Binary (binary.Subtract true) d (Constant k) false) m inst = refl
 transfer_moves head image following sampled (Binary op d (Register r) true) m inst = refl
-transfer_moves head image following sampled (Binary op d (Register r) false) m inst = refl
 transfer_moves head image following sampled (Binary op d (Constant k) true) m inst = refl
-transfer_moves head image following sampled (Binary op d (Constant k) false) m inst = refl
 transfer_moves head image following sampled (Unary unary.RotateRight d) m inst = refl
-transfer_moves head image following sampled (Unary op d) m inst = refl
 transfer_moves head image following sampled (Load d (Direct k)) m inst = refl
-transfer_moves head image following sampled (Load d (Displacement p q)) m inst = refl
-transfer_moves head image following sampled (Load d (PostIncrement p)) m inst = refl
-transfer_moves head image following sampled (Load d (PreDecrement p)) m inst = refl
 transfer_moves head image following sampled (Store to r) m inst =
     ap (λ a. with_pointer_range to (at_line m inst) (stored_in head a (value_at inst.regs r) (at_line m inst))) (address_moves to m inst)
     ∙ (ap (with_pointer_range to (at_line m inst)) (stored_moves head (address_range to inst) (value_at inst.regs r) m inst)
     ∙ pointer_moves to m inst (stored_in head (address_range to inst) (value_at inst.regs r) inst))
 transfer_moves head image following sampled (LoadProgram d true) m inst = refl
-transfer_moves head image following sampled (LoadProgram d false) m inst = refl
 transfer_moves head image following sampled (Jump target true) m inst = refl
-transfer_moves head image following sampled (Jump target false) m inst = refl
 transfer_moves head image following sampled (Return true) m inst = refl
-transfer_moves head image following sampled (Return false) m inst = refl
 transfer_moves head image following sampled e m inst = refl
 
 -- What it makes of the timer
 
-handler_stores_move : (at : ℕ) (to : AddressMode) (m : ℕ) (inst : Instance) → handler_stores at to (at_line m inst) ≡ handler_stores at to inst
+handler_stores_move : (at : ℕ) (to : AddressMode) (m : ℕ) (inst : Instance) → handler_stores at to (at_line m inst)
+    ≡ handler_stores at to inst
 handler_stores_move at to m inst = ap (λ a. is_handler inst.kind && (is_single a && nat_eq a.lo at)) (address_moves to m inst)
 
 stores_top_moves : (e : Effect) (m : ℕ) (inst : Instance) → stores_top e (at_line m inst) ≡ stores_top e inst
@@ -215,22 +145,15 @@ temp_moves sampled e m inst = refl
 binary_told_moves : (op : BinaryOp) (d : ℕ) (source : Operand) (compare : Bool) (m : ℕ) (inst : Instance)
     → told_by op d source compare (at_line m inst) ≡ told_by op d source compare inst
 binary_told_moves (binary.Subtract false) d (Register r) true m inst = refl
-binary_told_moves (binary.Subtract false) d (Register r) false m inst = refl
-binary_told_moves (binary.Subtract false) d (Constant k) true m inst = refl
-binary_told_moves (binary.Subtract false) d (Constant k) false m inst = refl
 binary_told_moves (binary.Subtract true) d (Register r) true m inst = refl
-binary_told_moves (binary.Subtract true) d (Register r) false m inst = refl
-binary_told_moves (binary.Subtract true) d (Constant k) true m inst = refl
-binary_told_moves (binary.Subtract true) d (Constant k) false m inst = refl
 binary_told_moves op d source true m inst = refl
-binary_told_moves op d source false m inst = refl
+binary_told_moves op d source compare m inst = refl
 
 told_moves : (e : Effect) (m : ℕ) (inst : Instance) → told_after e (at_line m inst) ≡ told_after e inst
 told_moves (Binary op d source compare) m inst = binary_told_moves op d source compare m inst
 told_moves (Store to r) m inst =
     ap (λ a. if may_be_sreg a then Nothing else past_pointer to inst.compared) (address_moves to m inst)
 told_moves (Jump target true) m inst = refl
-told_moves (Jump target false) m inst = refl
 told_moves e m inst = refl
 
 compared_moves : (head : Head) (e : Effect) (m : ℕ) (inst : Instance) → compared_after head e (at_line m inst) ≡ compared_after head e inst
@@ -241,21 +164,9 @@ pub record LengthsAlike (lines : Lines) (l m : ℕ) : Type 0 where
   pub own : lines.length m ≡ lines.length l
   pub next : lines.length (lines.next m) ≡ lines.length (lines.next l)
 
-keeps_moves : (lines : Lines) (m : ℕ) (inst : Instance) (x : Exit) → LengthsAlike lines inst.line m
-    → keeps_time lines (at_line m inst) x ≡ keeps_time lines inst x
-keeps_moves lines m inst x h =
-    ap (λ n. nat_eq (suc inst.top) n || (nat_le (inst.clock + x.clocks) inst.top && nat_lt (inst.clock + x.clocks) n)) h.own
-
-sets_moves : (lines : Lines) (e : Effect) (m : ℕ) (inst : Instance) (x : Exit) → LengthsAlike lines inst.line m
-    → sets_ahead lines e (at_line m inst) x ≡ sets_ahead lines e inst x
-sets_moves lines e m inst x h =
-    let k = inst.clock + x.clocks in
-    ap (λ b. not b || nat_le (clock_after lines m k) (top_after e (at_line m inst))) (stores_top_moves e m inst)
-    ∙ (ap (λ n. not (stores_top e inst) || nat_le (clock_after lines m k) n) (top_moves e m inst)
-    ∙ ap (λ n. not (stores_top e inst) || nat_le (if nat_lt k n then k else k - n) (top_after e inst)) h.own)
-
 -- the length of the line on which an instruction ends
-ends_alike : (lines : Lines) (l m k : ℕ) → LengthsAlike lines l m → lines.length (line_after lines m k) ≡ lines.length (line_after lines l k)
+ends_alike : (lines : Lines) (l m k : ℕ) → LengthsAlike lines l m → lines.length (line_after lines m k)
+    ≡ lines.length (line_after lines l k)
 ends_alike lines l m k h =
     ap (λ n. lines.length (if nat_lt k n then m else lines.next m)) h.own ∙ by_case (nat_lt k (lines.length l))
   where
@@ -263,27 +174,31 @@ ends_alike lines l m k h =
     by_case true = h.own
     by_case false = h.next
 
-returns_move : (lines : Lines) (e : Effect) (m : ℕ) (inst : Instance) (x : Exit) → LengthsAlike lines inst.line m
-    → returns_with_top lines e (at_line m inst) x ≡ returns_with_top lines e inst x
-returns_move lines e m inst x h =
-    ap (λ n. not (returns_from_interrupt e) || nat_eq (suc inst.top) n) (ends_alike lines inst.line m (inst.clock + x.clocks) h)
-
-in_time_moves : (lines : Lines) (e : Effect) (m : ℕ) (inst : Instance) (x : Exit) → LengthsAlike lines inst.line m
-    → is_in_time lines e (at_line m inst) x ≡ is_in_time lines e inst x
-in_time_moves lines e m inst x h =
-    ap (λ b. b && (sets_ahead lines e (at_line m inst) x && returns_with_top lines e (at_line m inst) x)) (keeps_moves lines m inst x h)
-    ∙ (ap (λ b. keeps_time lines inst x && (b && returns_with_top lines e (at_line m inst) x)) (sets_moves lines e m inst x h)
-    ∙ ap (λ b. keeps_time lines inst x && (sets_ahead lines e inst x && b)) (returns_move lines e m inst x h))
-
 pub each_same : (f g : Exit → Bool) (xs : List Exit) → ((x : Exit) → f x ≡ g x) → each_exit f xs ≡ each_exit g xs
 each_same f g [] same = refl
-each_same f g (x ∷ xs) same = ap (λ b. b && each_exit f xs) (same x) ∙ ap (λ b. g x && b) (each_same f g xs same)
+each_same f g (x ∷ xs) same = λ i. same x i && each_same f g xs same i
 
-time_moves : (lines : Lines) (e : Effect) (m : ℕ) (inst : Instance) (xs : List Exit) → LengthsAlike lines inst.line m
-    → clock_holds lines e (at_line m inst) xs ≡ clock_holds lines e inst xs
-time_moves lines e m inst xs h =
-    ap (λ b. not (is_handler inst.kind) || b)
-    (each_same (λ x. is_in_time lines e (at_line m inst) x) (λ x. is_in_time lines e inst x) xs (λ x. in_time_moves lines e m inst x h))
+module _ (lines : Lines) (m : ℕ) (inst : Instance) (h : LengthsAlike lines inst.line m) where
+  keeps_moves : (x : Exit) → keeps_time lines (at_line m inst) x ≡ keeps_time lines inst x
+  keeps_moves x =
+      ap (λ n. nat_eq (suc inst.top) n || (nat_le (inst.clock + x.clocks) inst.top && nat_lt (inst.clock + x.clocks) n)) h.own
+
+  sets_moves : (e : Effect) (x : Exit) → sets_ahead lines e (at_line m inst) x ≡ sets_ahead lines e inst x
+  sets_moves e x =
+      let k = inst.clock + x.clocks in
+      λ i. not (stores_top_moves e m inst i) || nat_le (if nat_lt k (h.own i) then k else k - h.own i) (top_moves e m inst i)
+
+  returns_move : (e : Effect) (x : Exit) → returns_with_top lines e (at_line m inst) x ≡ returns_with_top lines e inst x
+  returns_move e x =
+      ap (λ n. not (returns_from_interrupt e) || nat_eq (suc inst.top) n) (ends_alike lines inst.line m (inst.clock + x.clocks) h)
+
+  in_time_moves : (e : Effect) (x : Exit) → is_in_time lines e (at_line m inst) x ≡ is_in_time lines e inst x
+  in_time_moves e x = λ i. keeps_moves x i && (sets_moves e x i && returns_move e x i)
+
+  time_moves : (e : Effect) (xs : List Exit) → clock_holds lines e (at_line m inst) xs ≡ clock_holds lines e inst xs
+  time_moves e xs =
+      ap (λ b. not (is_handler inst.kind) || b)
+      (each_same (λ x. is_in_time lines e (at_line m inst) x) (λ x. is_in_time lines e inst x) xs (λ x. in_time_moves e x))
 
 -- The step
 
@@ -297,9 +212,8 @@ result_at m (Err why) = Err why
 unless_moves : (why : Option Fail) (emitted : Option (Option EventKind)) (in_time : Bool) (m : ℕ) (step : Step)
     → step_unless why emitted in_time (step_at m step) ≡ result_at m (step_unless why emitted in_time step)
 unless_moves (Some why) emitted in_time m step = refl
-unless_moves None None in_time m step = refl
-unless_moves None (Some event) false m step = refl
 unless_moves None (Some event) true m step = refl
+unless_moves None emitted in_time m step = refl
 
 abbrev drafted : Instance → ℕ → Ends → Compared → List Exit → Bool → Bool → Test → Step
 drafted draft top temp compared exits back clears asks =
@@ -312,7 +226,8 @@ drafted draft top temp compared exits back clears asks =
       test = asks;
     }
 
-step_moves : (head : Head) (lines : Lines) (image : FinMap nat_cmp ℕ) (e : Effect) (words : ℕ) (clocks : Outcome → ℕ) (m : ℕ) (inst : Instance)
+step_moves : (head : Head) (lines : Lines) (image : FinMap nat_cmp ℕ) (e : Effect) (words : ℕ) (clocks : Outcome → ℕ) (m : ℕ)
+    (inst : Instance)
     → LengthsAlike lines inst.line m
     → step_of head lines image e words clocks (at_line m inst) ≡ result_at m (step_of head lines image e words clocks inst)
 step_moves head lines image e words clocks m inst h =
@@ -326,14 +241,15 @@ step_moves head lines image e words clocks m inst h =
     ap (exits_of e clocks next now) (outcomes_move image next e m inst) ∙ exits_move e clocks next m inst (outcomes image next e inst) in
     let time : clock_holds lines e now (exits_of e clocks next now (outcomes image next e now)) ≡ clock_holds lines e inst
     (exits_of e clocks next inst (outcomes image next e inst)) =
-    ap (clock_holds lines e now) exits ∙ time_moves lines e m inst (exits_of e clocks next inst (outcomes image next e inst)) h in
+    ap (clock_holds lines e now) exits ∙ time_moves lines m inst h e (exits_of e clocks next inst (outcomes image next e inst)) in
     let draft : transfer head image next there e now ≡ at_line m (transfer head image next here e inst) =
     ap (λ k. transfer head image next k e now) same ∙ transfer_moves head image next here e m inst in
     let temp : temp_after there e now ≡ temp_after here e inst = ap (λ k. temp_after k e now) same ∙ temp_moves here e m inst in
     (λ i. step_unless (fail_moves head e m inst i) (emission_moves e m inst i) (time i)
     (drafted (draft i) (top_moves e m inst i) (temp i) (compared_moves head e m inst i) (exits i) back (clears_moves e m inst i)
     (test_of head e inst)))
-    ∙ unless_moves (fail_of head e inst) (emission e inst) (clock_holds lines e inst (exits_of e clocks next inst (outcomes image next e inst))) m
+    ∙ unless_moves (fail_of head e inst) (emission e inst) (clock_holds lines e inst
+    (exits_of e clocks next inst (outcomes image next e inst))) m
     (drafted (transfer head image next here e inst) (top_after e inst) (temp_after here e inst) (compared_after head e inst)
     (exits_of e clocks next inst (outcomes image next e inst)) back (clears_flag e inst) (test_of head e inst))
 
@@ -399,14 +315,11 @@ FewOf (Err why) = ⊤
 
 few_unless : (why : Option Fail) (emitted : Option (Option EventKind)) (in_time : Bool) (step : Step) → are_few step.exits.items ≡ true
     → FewOf (step_unless why emitted in_time step)
-few_unless (Some why) emitted in_time step h = tt
-few_unless None None in_time step h = tt
-few_unless None (Some event) false step h = tt
 few_unless None (Some event) true step h = h
+few_unless why emitted in_time step h = tt
 
 same_stops : (e : Effect) → is_stop e ≡ stops e
 same_stops Stop = refl
-same_stops NoOperation = refl
 same_stops e = refl
 
 low_of : (t : Bool) (n : ℕ) → t ≡ false → (t || (nat_le 1 n && nat_le n 4)) ≡ true → n ≤ 4

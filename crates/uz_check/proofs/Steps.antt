@@ -1,33 +1,26 @@
 -- From one turn to every run. Nothing here knows a machine's turn, a point or a rule: where each turn of a state that
 -- meets `Meets` at a position keeps to the schedule and leads to a state that meets it again, every run does.
-use Rattle.std.proofs.Common.{◌≡◌, All, ℕ, zero, suc, ◌+◌, ◌-◌, ◌<◌, ◌≤◌, List, [], ◌++◌, refl, ◌∙◌, ap, append_assoc, add_assoc, add-zero}
-use Rattle.std.proofs.Common.{zero-add, arith}
-use Rattle.std.proofs.Math.Nat.{add-suc, suc-add}
-use Rattle.std.proofs.lemmas.List.{append-nil}
-use Rattle.std.proofs.lemmas.List.Elements.{filter-append, filter_map-append, All-append}
-use Rattle.std.proofs.lemmas.Bool.Decides.{nat_tests}
-use Rattle.std.specs.Prelude.{Option, Some, None}
-use Rattle.uz_schedule.specs.declared.lines.EventKind.{EventKind}
-use Rattle.uz_core.specs.declared.machine.Edge.{Edge}
-use Rattle.uz_core.specs.Run.{Run}
-use Rattle.uz_rules.specs.Events.{event_of, shown_at, shown, listed}
-use Rattle.uz_check.specs.Claim.{scheduled, until, InTime, Follows}
+use Rattle.uz_check.proofs.Common.{◌≡◌, All, ℕ, zero, suc, ◌+◌, ◌-◌, ◌<◌, ◌≤◌, List, [], ◌++◌, refl, ◌∙◌, ap, append_assoc, arith}
+use Rattle.uz_check.proofs.Common.{append-nil, filter-append, filter_map-append, All-append, nat_tests, Option, Some, None, EventKind, Edge}
+use Rattle.uz_check.proofs.Common.{Run, event_of, shown_at, shown, listed, scheduled, until, InTime, Follows, add-zero, add-suc}
+use Rattle.std.proofs.Common.{add_assoc, zero-add}
+use Rattle.std.proofs.Math.Nat.{suc-add}
 
--- one turn keeps to the schedule, and to what holds at each position
-pub record StepFollows {S : Type 0} (clock_of : S → ℕ) (at : ℕ → Option EventKind) (Meets : ℕ → S → Type 0) (p : ℕ) (s : S)
-    (edges : List Edge) (next : S) : Type 0 where
+-- after n turns the state is at a later position, and the events are those of the schedule between
+pub record Comes {S : Type 0} (clock_of : S → ℕ) (at : ℕ → Option EventKind) (Meets : ℕ → S → Type 0) (p : ℕ) (s : S) (n : ℕ)
+    (edges : List Edge) (end : S) : Type 0 where
   pub clocks : ℕ
-  pub some : 1 ≤ clocks
-  pub clock : clock_of next ≡ clock_of s + clocks
-  pub meets : Meets (p + clocks) next
+  pub some : n ≤ clocks
+  pub clock : clock_of end ≡ clock_of s + clocks
+  pub meets : Meets (p + clocks) end
   pub exact : shown edges ≡ scheduled at p (clock_of s) clocks
   pub entries : All (λ e. InTime e.kind) edges
 
 pub record EveryStep {S : Type 0} (turn : S → List Edge → S → Type 0) (clock_of : S → ℕ) (at : ℕ → Option EventKind)
     (Meets : ℕ → S → Type 0) : Type 0 where
   pub goes_on : (p : ℕ) (s : S) → Meets p s → (more : List Edge) × (next : S) × turn s more next
-  pub follows : (p : ℕ) (s : S) (edges : List Edge) (next : S) → Meets p s → turn s edges next → StepFollows clock_of at Meets p s edges
-      next
+  pub follows : (p : ℕ) (s : S) (edges : List Edge) (next : S) → Meets p s → turn s edges next → Comes clock_of at Meets p s 1
+      edges next
 
 shown-append : (first rest : List Edge) → shown (first ++ rest) ≡ shown first ++ shown rest
 shown-append first rest = filter_map-append (λ e. shown_at (event_of e.kind) e.clock) first rest
@@ -78,68 +71,57 @@ up_to at p k n d edges e h =
     let parts : d ≡ n + (d - n) = omega arith in
     rw (e, parts) (until-scheduled at p k n (d - n))
 
--- after n turns the state is at a later position, and the events are those of the schedule between
-pub record Comes {S : Type 0} (clock_of : S → ℕ) (at : ℕ → Option EventKind) (Meets : ℕ → S → Type 0) (p : ℕ) (s : S) (n : ℕ)
-    (edges : List Edge) (end : S) : Type 0 where
-  pub clocks : ℕ
-  pub some : n ≤ clocks
-  pub clock : clock_of end ≡ clock_of s + clocks
-  pub meets : Meets (p + clocks) end
-  pub exact : shown edges ≡ scheduled at p (clock_of s) clocks
-  pub entries : All (λ e. InTime e.kind) edges
-
 joined : (at : ℕ → Option EventKind) (p k c d k' : ℕ) (first rest : List Edge) → shown first ≡ scheduled at p k c → k' ≡ k + c
     → shown rest ≡ scheduled at (p + c) k' d → shown (first ++ rest) ≡ scheduled at p k (c + d)
 joined at p k c d k' first rest f e r = shown-append first rest ∙ rw (scheduled-+, f, r, e) refl
 
-pub along : {S : Type 0} (turn : S → List Edge → S → Type 0) (clock_of : S → ℕ) (at : ℕ → Option EventKind) (Meets : ℕ → S → Type 0)
-    → EveryStep turn clock_of at Meets → (n p : ℕ) (s : S) (edges : List Edge) (end : S) → Meets p s → Run turn n s edges end
-    → Comes clock_of at Meets p s n edges end
-along turn clock_of at Meets h zero p s edges end m run =
-    record {
-      clocks = 0;
-      some = omega arith;
-      clock = rw add-zero (ap clock_of run.1);
-      meets = rw (add-zero, run.1) m;
-      exact = ap shown run.0;
-      entries = rw run.0 (λ k d b. absurd (omega arith));
-    }
-along turn clock_of at Meets h (suc n) p s edges end m run =
-    let mid = run.1 in
-    let step = h.follows p s run.0 mid m run.3 in
-    let rest = along turn clock_of at Meets h n (p + step.clocks) mid run.2 end step.meets run.4 in
-    record {
-      clocks = step.clocks + rest.clocks;
-      some = omega (arith, step.some, rest.some);
-      clock = omega (arith, step.clock, rest.clock);
-      meets = rw (← add_assoc) rest.meets;
-      exact = ap shown run.5 ∙ joined at p (clock_of s) step.clocks rest.clocks (clock_of mid) run.0 run.2 step.exact step.clock rest.exact;
-      entries = rw run.5 (All-append (λ e. InTime e.kind) run.0 run.2 step.entries rest.entries);
-    }
+module _ {S : Type 0} (turn : S → List Edge → S → Type 0) (clock_of : S → ℕ) (at : ℕ → Option EventKind) (Meets : ℕ → S → Type 0)
+    (h : EveryStep turn clock_of at Meets) where
+  pub along : (n p : ℕ) (s : S) (edges : List Edge) (end : S) → Meets p s → Run turn n s edges end → Comes clock_of at Meets p s n edges end
+  along zero p s edges end m run =
+      record {
+        clocks = 0;
+        some = omega arith;
+        clock = rw add-zero (ap clock_of run.1);
+        meets = rw (add-zero, run.1) m;
+        exact = ap shown run.0;
+        entries = rw run.0 (λ k d b. absurd (omega arith));
+      }
+  along (suc n) p s edges end m run =
+      let mid = run.1 in
+      let step = h.follows p s run.0 mid m run.3 in
+      let rest = along n (p + step.clocks) mid run.2 end step.meets run.4 in
+      record {
+        clocks = step.clocks + rest.clocks;
+        some = omega (arith, step.some, rest.some);
+        clock = omega (arith, step.clock, rest.clock);
+        meets = rw (← add_assoc) rest.meets;
+        exact = ap shown run.5 ∙ joined at p (clock_of s) step.clocks rest.clocks (clock_of mid) run.0 run.2 step.exact step.clock
+            rest.exact;
+        entries = rw run.5 (All-append (λ e. InTime e.kind) run.0 run.2 step.entries rest.entries);
+      }
 
--- a run of n turns, however many
-pub goes : {S : Type 0} (turn : S → List Edge → S → Type 0) (clock_of : S → ℕ) (at : ℕ → Option EventKind) (Meets : ℕ → S → Type 0)
-    → EveryStep turn clock_of at Meets → (n p : ℕ) (s : S) → Meets p s → (edges : List Edge) × (end : S) × Run turn n s edges end
-goes turn clock_of at Meets h zero p s m = ([], s, (refl, refl))
-goes turn clock_of at Meets h (suc n) p s m =
-    let first = h.goes_on p s m in
-    let step = h.follows p s first.0 first.1 m first.2 in
-    let rest = goes turn clock_of at Meets h n (p + step.clocks) first.1 step.meets in
-    (first.0 ++ rest.0, rest.1, (first.0, first.1, rest.0, first.2, rest.2, refl))
+  -- a run of n turns, however many
+  pub goes : (n p : ℕ) (s : S) → Meets p s → (edges : List Edge) × (end : S) × Run turn n s edges end
+  goes zero p s m = ([], s, (refl, refl))
+  goes (suc n) p s m =
+      let first = h.goes_on p s m in
+      let step = h.follows p s first.0 first.1 m first.2 in
+      let rest = goes n (p + step.clocks) first.1 step.meets in
+      (first.0 ++ rest.0, rest.1, (first.0, first.1, rest.0, first.2, rest.2, refl))
 
--- where every turn keeps to the schedule, every run does, for every number of clocks
-pub every_run : {S : Type 0} (turn : S → List Edge → S → Type 0) (clock_of : S → ℕ) (at : ℕ → Option EventKind) (Meets : ℕ → S → Type 0)
-    → EveryStep turn clock_of at Meets → (p : ℕ) (s : S) → Meets p s → (T : ℕ) → Follows turn clock_of at s p T
-every_run turn clock_of at Meets h p s m T =
-    let far = goes turn clock_of at Meets h T p s m in
-    let came = along turn clock_of at Meets h T p s far.0 far.1 m far.2 in
-    record {
-      goes_on = λ n edges end run below.
-          let come = along turn clock_of at Meets h n p s edges end m run in
-          h.goes_on (p + come.clocks) end come.meets;
-      comes = (T, far.0, far.1, far.2, omega (arith, came.clock, came.some));
-      exact = λ n edges end run long.
-          let come = along turn clock_of at Meets h n p s edges end m run in
-          up_to at p (clock_of s) T come.clocks edges come.exact (omega (arith, come.clock, long));
-      entries = λ n edges end run. (along turn clock_of at Meets h n p s edges end m run).entries;
-    }
+  -- where every turn keeps to the schedule, every run does, for every number of clocks
+  pub every_run : (p : ℕ) (s : S) → Meets p s → (T : ℕ) → Follows turn clock_of at s p T
+  every_run p s m T =
+      let far = goes T p s m in
+      let came = along T p s far.0 far.1 m far.2 in
+      record {
+        goes_on = λ n edges end run below.
+            let come = along n p s edges end m run in
+            h.goes_on (p + come.clocks) end come.meets;
+        comes = (T, far.0, far.1, far.2, omega (arith, came.clock, came.some));
+        exact = λ n edges end run long.
+            let come = along n p s edges end m run in
+            up_to at p (clock_of s) T come.clocks edges come.exact (omega (arith, come.clock, long));
+        entries = λ n edges end run. (along n p s edges end m run).entries;
+      }

@@ -1,10 +1,7 @@
 -- The timer within a line, and past its end.
-use Rattle.std.proofs.Common.{◌≡◌, ℕ, ◌+◌, ◌-◌, ◌≤◌, Bool, true, false, if◌then◌else◌, refl, ◌∙◌, arith}
+use Rattle.uz_check.proofs.Common.{◌≡◌, ℕ, ◌+◌, ◌-◌, ◌≤◌, Bool, true, false, if◌then◌else◌, refl, ◌∙◌, arith, or-false, or-true, le-leb}
+use Rattle.uz_check.proofs.Common.{lt-leb, ◌||◌, Timer, is_counting, count_after, matches_within, timer_after}
 use Rattle.std.proofs.Math.Nat.{mod-eq-sub-mod, mod-eq_of_lt}
-use Rattle.std.proofs.Math.Bool.{or-false, or-true}
-use Rattle.std.proofs.lemmas.Bool.{le-leb, lt-leb}
-use Rattle.std.specs.Prelude.{◌||◌}
-use Rattle.uz_core.specs.Timer.{Timer, is_counting, count_after, matches_within, timer_after}
 
 pub count_within : (t m d : ℕ) → t + d ≤ m → count_after t m d ≡ t + d
 count_within t m d h = rw (le-leb t m (omega arith)) (mod-eq_of_lt (omega arith))

@@ -1,21 +1,8 @@
 -- The timer of a handler and the place of its instance go on together.
-use Rattle.std.proofs.Common.{◌≡◌, ◌⊎◌, inl, inr, ℕ, suc, ◌+◌, ◌-◌, ◌<◌, ◌≤◌, Bool, true, false, refl, sym, ◌∙◌, ap, arith}
-use Rattle.std.specs.Prelude.{◌&&◌, ◌||◌, nat_eq, nat_le, nat_lt}
-use Rattle.std.proofs.lemmas.Bool.Decides.{leb_tells}
-use Rattle.std.proofs.lemmas.Bool.{le-leb, lt-leb, leb-true, eqb-true}
-use Rattle.std.proofs.Math.Bool.{or-false, or-true}
-use Rattle.uz_schedule.specs.declared.kinds.Kind.TheVariants.{Handler}
-use Rattle.uz_schedule.specs.declared.lines.Schedule.{Schedule}
-use Rattle.uz_schedule.specs.declared.states.Instance.{Instance}
-use Rattle.uz_schedule.specs.Schedule.{length_of}
-use Rattle.uz_core.specs.Timer.{Timer, is_counting, timer_after}
-use Rattle.uz_schedule.specs.Lines.{Lines, clock_after}
-use Rattle.uz_transfer.specs.declared.step.Exit.{Exit}
-use Rattle.uz_transfer.specs.InTime.{keeps_time}
-use Rattle.uz_transfer.specs.Step.{ends_line}
-use Rattle.uz_rules.specs.Meets.{TimerMeets}
-use Rattle.uz_schedule.specs.Lines.{order_of}
-use Rattle.uz_check.proofs.Fitting.{and_true}
+use Rattle.uz_check.proofs.Common.{and_parts, ◌≡◌, ◌⊎◌, inl, inr, ℕ, suc, ◌+◌, ◌-◌, ◌<◌, ◌≤◌, Bool, true, false, refl, sym, ◌∙◌, ap, arith}
+use Rattle.uz_check.proofs.Common.{◌&&◌, ◌||◌, nat_eq, nat_le, nat_lt, leb_tells, le-leb, lt-leb, leb-true, eqb-true, or-false, or-true}
+use Rattle.uz_check.proofs.Common.{Handler, Schedule, Instance, length_of, Timer, is_counting, timer_after, Lines, clock_after, Exit}
+use Rattle.uz_check.proofs.Common.{keeps_time, ends_line, TimerMeets, order_of}
 use Rattle.uz_check.proofs.Timer.{count_within, count_over, count_counting, matched_within, matched_over}
 
 -- the timer comes to the end of an instruction of c clocks as its line does: OCR1A is the line's last clock, or neither ends
@@ -32,7 +19,7 @@ on_time lines inst exit e = by_case (nat_eq (suc inst.top) (lines.length inst.li
         → OnTime inst.clock (lines.length inst.line) inst.top exit.clocks
     by_case true is h = inl (eqb-true (suc inst.top) (lines.length inst.line) is)
     by_case false is h =
-        let both = and_true (nat_le (inst.clock + exit.clocks) inst.top) _ h in
+        let both = and_parts (nat_le (inst.clock + exit.clocks) inst.top) _ h in
         inr (
           leb-true (inst.clock + exit.clocks) inst.top both.0,
           leb-true (suc (inst.clock + exit.clocks)) (lines.length inst.line) both.1,

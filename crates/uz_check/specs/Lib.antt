@@ -1,9 +1,9 @@
-pub mod Unsteady
+pub mod Steadiness
 pub mod Refusal
 pub mod Pair
 pub mod FrameTests
 pub mod Folding
-pub mod Untold
+pub mod ImpliedLines
 pub mod Claim
 pub mod Steady
 pub mod Certified

@@ -12,7 +12,7 @@ use Rattle.uz_check.specs.FrameRules.{RestPasses, EntryPasses}
 use Rattle.uz_rules.specs.Local.{IsLocal}
 use Rattle.uz_check.specs.declared.refusal.RefusedWhy.{RefusedWhy}
 use Rattle.uz_check.specs.declared.refusal.RefusedWhy.TheVariants.{Schedule, Rest as RestWhy, Entry, Point as PointWhy}
-use Rattle.uz_check.specs.Unsteady.{first_unsteady}
+use Rattle.uz_check.specs.Steadiness.{first_break}
 
 -- what refuses: nothing, or an item
 abbrev pub Why : Type 0
@@ -30,7 +30,7 @@ InTurn first second None = first None × second None
 InTurn first second (Some why) = first (Some why) ⊎ (first None × second (Some why))
 
 unfoldable pub ScheduleRefusal : Frame → Why → Type 0
-ScheduleRefusal schedule why = why ≡ option_map (λ place. Schedule place.0 place.1) (first_unsteady schedule)
+ScheduleRefusal schedule why = why ≡ option_map (λ place. Schedule place.0 place.1) (first_break schedule)
 
 unfoldable pub RestRefusal : Cert → Rest → Why → Type 0
 RestRefusal cert rest None = RestPasses cert rest

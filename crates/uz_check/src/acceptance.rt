@@ -4,7 +4,7 @@ ghost use Rattle.std.specs.Prelude.{◌≡◌, ◌≤◌, ◌<◌, ◌+◌, ◌�
 ghost use Rattle.uz_schedule.specs.WellFormed.{WellFormed};
 ghost use Rattle.uz_check.specs.Acceptance.{Accepts};
 ghost use Rattle.uz_check.specs.Certified.{Certified};
-ghost use Rattle.uz_check.specs.Untold.{untold};
+ghost use Rattle.uz_check.specs.ImpliedLines.{instances_to_check};
 ghost use Rattle.uz_check.specs.Refusal.{FirstRefusal, IsThere};
 
 use crate::entering::entry_refusal;
@@ -12,7 +12,7 @@ use crate::points::points_refusal;
 use crate::refusal::RefusedWhy;
 use crate::rests::rests_refusal;
 use crate::soundness;
-use crate::unsteady::schedule_refusal;
+use crate::steadiness::schedule_refusal;
 use std::marker::Model;
 use uz_hex::Image;
 use uz_rules::local_is_unique;
@@ -86,7 +86,7 @@ pub struct Refused {
 fn first_refusal(image: &Image, cert: &Cert, looked: &mut u64) -> Option<RefusedWhy>
     requires { WellFormed cert.now }
     ensures first { FirstRefusal image.now cert.now result }
-    ensures few { looked.new ≤ looked.old + untold cert.now }
+    ensures few { looked.new ≤ looked.old + instances_to_check cert.now }
 {
     if let Some(why) = schedule_refusal(&cert.schedule) {
         return Some(why);
@@ -106,7 +106,7 @@ fn counted_verdict(image: &Image, cert: &Cert, looked: &mut u64) -> Option<Refus
     ensures exact { FirstRefusal image.now cert.now result }
     ensures accepted { IsNone result ↔ Accepts image.now cert.now }
     ensures there { IfSome result (IsThere cert.now) }
-    ensures few { looked.new ≤ looked.old + untold cert.now }
+    ensures few { looked.new ≤ looked.old + instances_to_check cert.now }
 {
     local_is_unique();
     first_refusal(image, cert, looked)
@@ -143,7 +143,7 @@ pub fn check(image: Image, cert: Cert) -> Result<Accepted, Refused>
 }
 
 /// Checks an image against a certificate as `check` does, and counts the instances that the local rule is asked of. `looked`
-/// rises by at most the number of instances on lines of which the line before doesn't tell, and stays at the greatest u64.
+/// rises by at most the number of instances on lines that the line before doesn't imply, and stays at the greatest u64.
 /// Takes no memory.
 pub fn check_counted(image: Image, cert: Cert, looked: &mut u64) -> Result<Accepted, Refused>
     requires { WellFormed cert }
@@ -152,7 +152,7 @@ pub fn check_counted(image: Image, cert: Cert, looked: &mut u64) -> Result<Accep
     ensures same { IfOk result (λ a. (a.image ≡ image) × (a.cert ≡ cert)) }
     ensures refused { IfErr result (λ r. FirstRefusal image cert (Some r.why) × (r.image ≡ image) × (r.cert ≡ cert)) }
     ensures there { IfErr result (λ r. IsThere r.cert r.why) }
-    ensures few { looked.new ≤ looked.old + untold cert }
+    ensures few { looked.new ≤ looked.old + instances_to_check cert }
 {
     soundness();
     match counted_verdict(&image, &cert, looked) {

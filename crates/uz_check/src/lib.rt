@@ -7,6 +7,7 @@ mod boxes;
 mod entering;
 mod facts;
 mod family_laws;
+mod implied_lines;
 mod laws;
 mod lines;
 mod played_laws;
@@ -16,8 +17,7 @@ mod refusal;
 mod rests;
 mod scanline_laws;
 mod soundness_laws;
-mod told;
-mod unsteady;
+mod steadiness;
 
 pub use acceptance::{Accepted, Refused, check, check_counted, verdict};
 pub use family_laws::lines_fold;

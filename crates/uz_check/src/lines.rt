@@ -9,7 +9,7 @@ ghost use Rattle.uz_check.specs.Folding.{kind_of as line_kind, line_before as li
 ghost use Rattle.uz_check.specs.Folding.{kinds_alike as kinds_same, same_spans as spans_same};
 ghost use Rattle.uz_check.specs.Folding.{same_rest as rest_same, rests_alike as rests_same};
 ghost use Rattle.uz_check.specs.Folding.{lines_alike as alike};
-ghost use Rattle.uz_check.specs.Untold.{IsRun, RunsFrom};
+ghost use Rattle.uz_check.specs.ImpliedLines.{IsRun, RunsFrom};
 
 use uz_schedule::{Cert, Rest, Schedule, Span};
 

@@ -1,16 +1,16 @@
-//! The local rule of all instances, in order. A line of which the line before tells isn't looked at.
+//! The local rule of all instances, in order. A line that the line before implies isn't looked at.
 
 ghost use Rattle.std.specs.Prelude.{◌≡◌, ◌<◌, ◌≤◌, ◌+◌, ◌-◌, suc, length, slice_get, Some};
 ghost use Rattle.uz_schedule.specs.WellFormed.{WellFormed, BoxFits};
-ghost use Rattle.uz_check.specs.Untold.{RunsFrom, untold_of, untold};
+ghost use Rattle.uz_check.specs.ImpliedLines.{RunsFrom, instances_to_check_of, instances_to_check};
 ghost use Rattle.uz_rules.specs.Visit.{IsVisit};
 ghost use Rattle.uz_check.specs.Refusal.{InstanceRefusal, LineRefusal, PointRefusal, PointsRefusal};
 
 use crate::family_laws::lines_fold;
+use crate::implied_lines::next_to_check;
 use crate::lines::alike_runs;
 use crate::reach::reach_of;
 use crate::refusal::RefusedWhy;
-use crate::told::next_untold;
 use uz_hex::Image;
 use uz_rules::Visit;
 use uz_schedule::{Cert, Point};
@@ -67,7 +67,7 @@ fn line_refusal(
     None
 }
 
-/// The first refusal among a point's instances, line by line. Those on lines of which the line before tells aren't looked at.
+/// The first refusal among a point's instances, line by line. Those on lines that the line before implies aren't looked at.
 #[tactic(auto, unfolding(crate::specs::Refusal::PointRefusal))]
 fn lines_refusal(
     image: &Image,
@@ -84,7 +84,7 @@ fn lines_refusal(
     requires noted { RunsFrom cert.now runs.now 0 }
     requires visit { IsVisit image.now cert.now id visit.old }
     ensures first { PointRefusal image.now cert.now id point.now result }
-    ensures few { looked.new ≤ looked.old + untold_of cert.now point.now }
+    ensures few { looked.new ≤ looked.old + instances_to_check_of cert.now point.now }
 {
     lines_fold();
     let reach = reach_of(cert, point);
@@ -93,12 +93,12 @@ fn lines_refusal(
         if let Some(why) = line_refusal(image, cert, id, point, l, visit, looked) {
             return Some(why);
         }
-        l = next_untold(cert, runs, reach, point, l + 1);
+        l = next_to_check(cert, runs, reach, point, l + 1);
     }
     None
 }
 
-/// The first refusal among the instances of a point whose box has one line. No other line is told of, so nothing is asked of that.
+/// The first refusal among the instances of a point whose box has one line. It implies no other line, so nothing is asked of that.
 #[tactic(auto, using(crate::proofs::Looked::one_line_refusal, crate::proofs::Looked::one_line_looked))]
 fn one_line_refusal(
     image: &Image,
@@ -114,7 +114,7 @@ fn one_line_refusal(
     requires box_fits { BoxFits (length cert.now.schedule.lines) point.now }
     requires one { point.now.l0 ≡ point.now.l1 }
     ensures first { PointRefusal image.now cert.now id point.now result }
-    ensures few { looked.new ≤ looked.old + untold_of cert.now point.now }
+    ensures few { looked.new ≤ looked.old + instances_to_check_of cert.now point.now }
 {
     line_refusal(image, cert, id, point, point.l0, visit, looked)
 }
@@ -134,7 +134,7 @@ fn point_refusal(
     requires box_fits { BoxFits (length cert.now.schedule.lines) point.now }
     requires noted { RunsFrom cert.now runs.now 0 }
     ensures first { PointRefusal image.now cert.now id point.now result }
-    ensures few { looked.new ≤ looked.old + untold_of cert.now point.now }
+    ensures few { looked.new ≤ looked.old + instances_to_check_of cert.now point.now }
 {
     visit.begin(image, cert, id);
     if point.l0 == point.l1 {
@@ -160,7 +160,7 @@ fn point_of(cert: &Cert, id: u32) -> &Point
 pub(crate) fn points_refusal(image: &Image, cert: &Cert, looked: &mut u64) -> Option<RefusedWhy>
     requires { WellFormed cert.now }
     ensures first { PointsRefusal image.now cert.now result }
-    ensures few { looked.new ≤ looked.old + untold cert.now }
+    ensures few { looked.new ≤ looked.old + instances_to_check cert.now }
 {
     let runs = alike_runs(cert);
     let mut visit = Visit::empty();

@@ -3,7 +3,7 @@
 ghost use Rattle.std.specs.Prelude.{◌≡◌, ◌<◌, ◌≤◌, length, slice_get, Some};
 ghost use Rattle.uz_schedule.specs.Limits.{ScheduleFits};
 ghost use Rattle.uz_schedule.specs.declared.states.Point.{Point};
-ghost use Rattle.uz_check.specs.Untold.{HoldTo, IsReach};
+ghost use Rattle.uz_check.specs.ImpliedLines.{HoldTo, IsReach};
 
 use crate::facts::is_plain;
 use uz_schedule::{Cert, Point};

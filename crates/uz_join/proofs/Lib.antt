@@ -3,6 +3,6 @@ pub mod EachLemmas
 pub mod EqualLists
 pub mod OldFacts
 pub mod SameFacts
-pub mod TellingLemmas
+pub mod CoverageLemmas
 pub mod TakenLemmas
 pub mod GrowthLemmas

@@ -9,7 +9,7 @@ use Rattle.uz_schedule.specs.declared.states.Point.{Point}
 use Rattle.uz_join.specs.Same.{AreTold, IsWhollyTold, SameInstances}
 use Rattle.uz_join.proofs.SameFacts.{wholly_itself}
 use Rattle.uz_join.proofs.TakenLemmas.{next_taken, none_dropped}
-use Rattle.uz_join.proofs.TellingLemmas.{front, last_of}
+use Rattle.uz_join.proofs.CoverageLemmas.{front, last_of}
 use Rattle.uz_join.specs.declared.replacing.Replacing.{Replacing}
 use Rattle.uz_join.specs.Replacing.{AreSoFar, IsPut}
 

@@ -3,5 +3,5 @@ pub mod Replacing
 pub mod Unjoined
 pub mod Points
 pub mod Same
-pub mod Telling
+pub mod Coverage
 pub mod Along

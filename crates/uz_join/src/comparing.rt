@@ -4,7 +4,7 @@ ghost use Rattle.std.specs.Prelude.{◌≡◌, true};
 ghost use Rattle.uz_schedule.specs.Exact.{SameKnown, SamePlace};
 ghost use Rattle.uz_schedule.specs.Instances.{instance_of};
 
-use crate::saying::{say, say_cells, say_pairs, say_same, say_same_cells, say_same_pairs};
+use crate::facts_at::{say, say_cells, say_pairs, say_same, say_same_cells, say_same_pairs};
 use uz_schedule::{Instance, Point};
 
 /// Whether a point says where an instance stands at a line, and what is known of the timer.

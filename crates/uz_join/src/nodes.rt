@@ -1,7 +1,7 @@
 //! The points into which the instances of a search are joined: none is made of each instance before.
 
 ghost use Rattle.std.specs.Prelude.{◌≡◌, IfOk, IfSome};
-ghost use Rattle.uz_join.specs.Telling.{SaysInstances};
+ghost use Rattle.uz_join.specs.Coverage.{SaysInstances};
 
 use crate::boxes::chain_points;
 use crate::finding::chains_of;

@@ -17,7 +17,7 @@ mod kinds;
 mod laws;
 mod limits;
 mod line_events;
-mod line_order;
+mod line_length;
 mod lines;
 mod points;
 mod positions;
@@ -40,7 +40,7 @@ pub use laws::{
 };
 pub use limits::{CLOCK_LIMIT, MOST_EVENTS, MOST_LINES, clocks_rise, is_top, rises, schedule_fits};
 pub use line_events::LineEvents;
-pub use line_order::{HALF_LINE, SCANLINE};
+pub use line_length::{HALF_LINE, SCANLINE};
 pub use lines::{Event, EventKind, Schedule};
 pub use ranges::{Span, Wide, hull};
 pub use sequence::Sequence;

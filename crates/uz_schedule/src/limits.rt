@@ -6,7 +6,7 @@ ghost use Rattle.uz_schedule.specs.Limits.{is_length as length_is, is_top as top
 ghost use Rattle.uz_schedule.specs.Limits.{lengths_fit as fit_lengths};
 
 use crate::line_events::LineEvents;
-use crate::line_order::{HALF_LINE, SCANLINE};
+use crate::line_length::{HALF_LINE, SCANLINE};
 use crate::lines::{Event, EventKind, Schedule};
 
 /// Each clock of a text is below this: that of the longest line.

@@ -2,7 +2,7 @@
 
 use crate::facts::{Bit, Compared, Fact, PairFact, Val};
 use crate::kinds::Kind;
-use crate::line_order::SCANLINE;
+use crate::line_length::SCANLINE;
 use crate::ranges::{Span, Wide};
 use arrayvec::ArrayVec;
 use std::hash::{Hash, Hasher};

@@ -1,4 +1,4 @@
-use Rattle.std.proofs.Common.{refl}
+use Rattle.uz_check.proofs.Common.{refl}
 use Rattle.uz_check.proofs.acceptance.check_counted.Goals as goal
 
 pub returns-in-None-clause-certified : goal.returns-in-None-clause-certified

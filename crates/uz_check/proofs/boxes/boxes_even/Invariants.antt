@@ -1,6 +1,4 @@
-use Rattle.std.proofs.Common.{◌≡◌, drop, slice_get}
-use Rattle.std.specs.List.{list_all}
-use Rattle.uz_check.specs.Folding.{is_even}
+use Rattle.uz_check.proofs.Common.{◌≡◌, drop, slice_get, list_all, is_even}
 use Rattle.uz_check.proofs.boxes.boxes_even.Given as goal
 
 abbrev pub invariant-each : goal.invariant-each

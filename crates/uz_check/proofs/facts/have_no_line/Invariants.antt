@@ -1,6 +1,4 @@
-use Rattle.std.proofs.Common.{◌≡◌, drop, slice_get}
-use Rattle.std.specs.List.{list_all}
-use Rattle.uz_check.specs.Folding.{has_no_line_there}
+use Rattle.uz_check.proofs.Common.{◌≡◌, drop, slice_get, list_all, has_no_line_there}
 use Rattle.uz_check.proofs.facts.have_no_line.Given as goal
 
 abbrev pub invariant-each : goal.invariant-each

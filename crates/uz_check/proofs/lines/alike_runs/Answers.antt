@@ -1,6 +1,4 @@
-use Rattle.std.proofs.Common.{◌≡◌, ◌+◌, ◌-◌, ◌<◌, ◌≤◌, ◌∙◌, length, subst, sym, arith}
-use Rattle.std.specs.Prelude.{slice_set}
-use Rattle.uz_check.specs.Untold.{IsRun, RunsFrom}
+use Rattle.uz_check.proofs.Common.{◌≡◌, ◌+◌, ◌-◌, ◌<◌, ◌≤◌, ◌∙◌, length, subst, sym, arith, slice_set, IsRun, RunsFrom}
 use Rattle.uz_check.proofs.Runs.{set_length, runs_more}
 use Rattle.uz_check.proofs.lines.alike_runs.Goals as goal
 

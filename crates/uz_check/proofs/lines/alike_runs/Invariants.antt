@@ -1,5 +1,4 @@
-use Rattle.std.proofs.Common.{◌≡◌, ◌-◌, length}
-use Rattle.uz_check.specs.Untold.{IsRun, RunsFrom}
+use Rattle.uz_check.proofs.Common.{◌≡◌, ◌-◌, length, IsRun, RunsFrom}
 use Rattle.uz_check.proofs.lines.alike_runs.Given as goal
 
 -- the lines at the frame's end are noted, and the run of the first of them is known

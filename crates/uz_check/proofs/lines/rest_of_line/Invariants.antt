@@ -1,5 +1,4 @@
-use Rattle.std.proofs.Common.{◌≡◌, drop}
-use Rattle.uz_rules.specs.Local.{rest_in}
+use Rattle.uz_check.proofs.Common.{◌≡◌, drop, rest_in}
 use Rattle.uz_check.proofs.lines.rest_of_line.Given as goal
 
 abbrev pub invariant-each : goal.invariant-each

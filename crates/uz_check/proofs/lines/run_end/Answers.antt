@@ -1,4 +1,4 @@
-use Rattle.std.proofs.Common.{sym, ◌∙◌}
+use Rattle.uz_check.proofs.Common.{sym, ◌∙◌}
 use Rattle.uz_check.proofs.Runs.{run_goes_on}
 use Rattle.uz_check.proofs.lines.run_end.Goals as goal
 

@@ -1,5 +1,5 @@
-use Rattle.std.proofs.Common.{sym}
-use Rattle.uz_check.proofs.Spans.{lengths_differ}
+use Rattle.uz_check.proofs.Common.{sym}
+use Rattle.uz_check.proofs.InstanceMoves.{lengths_differ}
 use Rattle.uz_check.proofs.lines.same_spans.Goals as goal
 
 pub returns-then-a-b : goal.returns-then-a-b

@@ -1,5 +1,4 @@
-use Rattle.std.proofs.Common.{◌≡◌, drop}
-use Rattle.uz_check.specs.Folding.{same_spans}
+use Rattle.uz_check.proofs.Common.{◌≡◌, drop, same_spans}
 use Rattle.uz_check.proofs.lines.same_spans.Given as goal
 
 abbrev pub invariant-each : goal.invariant-each

@@ -1,7 +1,4 @@
-use Rattle.std.proofs.Common.{ℕ, ◌≤◌, ◌<◌, ◌+◌, ◌-◌}
-use Rattle.std.specs.Prelude.{None}
-use Rattle.uz_rules.specs.Visit.{IsVisit}
-use Rattle.uz_check.specs.Refusal.{InstanceRefusal}
+use Rattle.uz_check.proofs.Common.{ℕ, ◌≤◌, ◌<◌, ◌+◌, ◌-◌, None, IsVisit, InstanceRefusal}
 use Rattle.uz_check.proofs.points.line_refusal.Given as goal
 
 -- none so far is refused, and each was looked at once

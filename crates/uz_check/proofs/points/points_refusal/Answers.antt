@@ -1,9 +1,5 @@
-use Rattle.std.proofs.Common.{◌≡◌, inl, inr, ◌+◌, suc, sym, ap, subst, take, arith}
-use Rattle.std.specs.Prelude.{Some, None, slice_get}
-use Rattle.std.proofs.lemmas.Bool.Decides.{eqb_tells}
-use Rattle.uz_check.specs.Untold.{untold_in}
-use Rattle.uz_schedule.specs.declared.states.Point.{Point}
-use Rattle.uz_check.specs.Refusal.{PointRefusal}
+use Rattle.uz_check.proofs.Common.{◌≡◌, inl, inr, ◌+◌, suc, sym, ap, subst, take, arith, Some, None, slice_get, eqb_tells}
+use Rattle.uz_check.proofs.Common.{instances_to_check_in, Point, PointRefusal}
 use Rattle.uz_check.proofs.Totals.{one_more_point, some_points}
 use Rattle.uz_check.proofs.points.points_refusal.Goals as goal
 
@@ -23,7 +19,7 @@ points-preserved c =
     let point = c.point_of-point.result.now in
     let on : suc n ≡ n + 1 = omega arith in
     let one = one_more_point cert cert.points n point c.point_of-point.ensures.is in
-    let same = ap (λ k. untold_in cert (take k cert.points)) on in
+    let same = ap (λ k. instances_to_check_in cert (take k cert.points)) on in
     let seen = c.point_refusal.ensures.few in
     record {
       none = λ j few.

@@ -1,5 +1,4 @@
-use Rattle.std.proofs.Common.{◌≤◌}
-use Rattle.uz_check.specs.Untold.{HoldTo}
+use Rattle.uz_check.proofs.Common.{◌≤◌, HoldTo}
 use Rattle.uz_check.proofs.reach.lines_of_all.Given as goal
 
 -- the boxes so far hold the lines

@@ -1,5 +1,4 @@
-use Rattle.std.proofs.Common.{◌≡◌, drop}
-use Rattle.uz_check.specs.FrameTests.{none_after}
+use Rattle.uz_check.proofs.Common.{◌≡◌, drop, none_after}
 use Rattle.uz_check.proofs.rests.none_after.Given as goal
 
 -- what is left answers for all

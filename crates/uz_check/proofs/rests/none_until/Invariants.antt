@@ -1,5 +1,4 @@
-use Rattle.std.proofs.Common.{◌≡◌, drop}
-use Rattle.uz_check.specs.FrameTests.{none_until}
+use Rattle.uz_check.proofs.Common.{◌≡◌, drop, none_until}
 use Rattle.uz_check.proofs.rests.none_until.Given as goal
 
 -- what is left answers for all

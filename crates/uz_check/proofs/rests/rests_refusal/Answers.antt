@@ -1,9 +1,5 @@
-use Rattle.std.proofs.Common.{◌≡◌, inl, inr, ℕ, List, length, ◌<◌, sym, ◌∙◌, ap, subst, get_or, arith}
-use Rattle.std.specs.Prelude.{Some, None, slice_get}
-use Rattle.std.proofs.lemmas.Bool.Decides.{eqb_tells}
-use Rattle.std.proofs.lemmas.Option.{slice_get-get_or}
-use Rattle.uz_schedule.specs.declared.states.Rest.{Rest}
-use Rattle.uz_check.specs.Refusal.{RestRefusal}
+use Rattle.uz_check.proofs.Common.{◌≡◌, inl, inr, ℕ, List, length, ◌<◌, sym, ◌∙◌, ap, subst, get_or, arith, Some, None, slice_get}
+use Rattle.uz_check.proofs.Common.{eqb_tells, slice_get-get_or, Rest, RestRefusal}
 use Rattle.uz_check.proofs.rests.rests_refusal.Goals as goal
 
 found : (rests lent : List Rest) (i : ℕ) (rest : Rest) → lent ≡ rests → i < length lent → rest ≡ get_or lent i rest → slice_get rests

@@ -1,7 +1,4 @@
-use Rattle.std.proofs.Common.{◌≡◌, ℕ, ◌<◌}
-use Rattle.std.specs.Prelude.{None, Some, slice_get}
-use Rattle.uz_schedule.specs.declared.states.Rest.{Rest}
-use Rattle.uz_check.specs.Refusal.{RestRefusal}
+use Rattle.uz_check.proofs.Common.{◌≡◌, ℕ, ◌<◌, None, Some, slice_get, Rest, RestRefusal}
 use Rattle.uz_check.proofs.rests.rests_refusal.Given as goal
 
 -- none so far is refused

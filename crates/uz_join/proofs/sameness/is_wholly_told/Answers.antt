@@ -1,6 +1,6 @@
 use Rattle.std.proofs.Common.{refl}
 use Rattle.uz_join.specs.Same.{IsTold}
-use Rattle.uz_join.proofs.TellingLemmas.{one_more_line}
+use Rattle.uz_join.proofs.CoverageLemmas.{one_more_line}
 use Rattle.uz_join.proofs.sameness.is_wholly_told.Goals as goal
 
 pub loop-line-preserved : goal.loop-line-preserved

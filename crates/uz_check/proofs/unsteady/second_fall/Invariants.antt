@@ -1,7 +1,0 @@
-use Rattle.std.proofs.Common.{◌≡◌, drop}
-use Rattle.uz_check.specs.Unsteady.{second_fall}
-use Rattle.uz_check.proofs.unsteady.second_fall.Given as goal
-
--- what is left answers for all
-abbrev pub invariant-loop-event : goal.invariant-loop-event
-invariant-loop-event l = second_fall (drop l.event-index l.events) ≡ second_fall l.events

@@ -1,0 +1,9 @@
+use Rattle.std.proofs.Common.{◌≡◌, ◌<◌, ℕ}
+use Rattle.std.specs.Prelude.{Some, slice_get}
+use Rattle.uz_schedule.specs.declared.states.Point.{Point}
+use Rattle.uz_join.specs.Coverage.{IsSaidOver}
+use Rattle.uz_join.proofs.coverage.Coverage.has_all.Given as goal
+
+-- those so far are instances
+abbrev pub invariant-loop-i : goal.invariant-loop-i
+invariant-loop-i l = (j : ℕ) (q : Point) → j < l.i → slice_get l.self.points j ≡ Some q → IsSaidOver l.self.nodes q

@@ -1,9 +1,0 @@
-use Rattle.std.proofs.Common.{◌≡◌, ◌<◌, ℕ, get_or}
-use Rattle.uz_schedule.specs.Ends.{Ends}
-use Rattle.uz_schedule.specs.Instances.{cell_span}
-use Rattle.uz_schedule.specs.declared.facts.Fact.{Fact}
-use Rattle.uz_join.proofs.saying.say_cells_each.Given as goal
-
--- those so far are said
-abbrev pub invariant-loop-i : goal.invariant-loop-i
-invariant-loop-i l = (j : ℕ) (d : Fact) (e : Ends) → j < l.i → cell_span l.line l.count (get_or l.facts j d) ≡ get_or l.spans j e

@@ -1,9 +1,0 @@
-use Rattle.std.proofs.Common.{◌≡◌, ◌<◌, ℕ, get_or}
-use Rattle.uz_schedule.specs.Instances.{val_of}
-use Rattle.uz_schedule.specs.declared.facts.Fact.{Fact}
-use Rattle.uz_schedule.specs.declared.facts.Val.{Val}
-use Rattle.uz_join.proofs.saying.say_each.Given as goal
-
--- those so far are said
-abbrev pub invariant-loop-i : goal.invariant-loop-i
-invariant-loop-i l = (j : ℕ) (d : Fact) (e : Val) → j < l.i → val_of l.line l.count (get_or l.facts j d) ≡ get_or l.vals j e
