@@ -101,6 +101,7 @@ fn program(alloc: Global, fall: u16) -> Result<Program, AllocError>
         schedule: frame(alloc, fall)?,
         facts: BTreeMap::new(alloc),
         starts,
+        splits: Sequence::new(alloc),
     })
 }
 

@@ -9,7 +9,7 @@ use Rattle.uz_explanations.specs.declared.ranking.Crowd.{Crowd}
 use Rattle.uz_explanations.specs.Counting.{counts, crowd}
 use Rattle.uz_explanations.specs.Differing.{cells_text, different, differing, part_line, parts_text}
 use Rattle.uz_explanations.specs.Ranking.{greatest}
-use Rattle.uz_explanations.specs.Telling.{crowd_lines, crowds_text, head_line}
+use Rattle.uz_explanations.specs.Crowds.{crowd_lines, crowds_text, head_line}
 
 pub parts_none : (text : List ℕ) (class : Class) (xs : List Instance) → text ≡ text ++ parts_text class 0 xs
 unfolding parts_text

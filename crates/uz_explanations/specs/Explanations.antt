@@ -5,7 +5,7 @@ use Rattle.std.specs.FinMap.{FinMap}
 use Rattle.uz_search.specs.declared.found.NotFound.{NotFound}
 use Rattle.uz_search.specs.declared.found.NotFound.TheVariants.{Stuck, Split, Full, Hint, NoRest, Memory}
 use Rattle.avr_asm.specs.declared.labels.Label.{Label}
-use Rattle.uz_explanations.specs.Telling.{crowds_text}
+use Rattle.uz_explanations.specs.Crowds.{crowds_text}
 use Rattle.uz_explanations.specs.Readings.{Reading}
 use Rattle.uz_explanations.specs.Ways.{way_text, both_ways}
 

@@ -10,7 +10,7 @@ pub mod Counting
 pub mod Ranking
 pub mod Parts
 pub mod Differing
-pub mod Telling
+pub mod Crowds
 pub mod Putting
 pub mod Seen
 pub mod Numbers

@@ -2,7 +2,7 @@
 
 ghost use Rattle.std.specs.Prelude.{◌≡◌, ◌++◌, IfOk, OnOk};
 ghost use Rattle.uz_explanations.specs.Readings.{Reading, IsReading};
-ghost use Rattle.uz_explanations.specs.Telling.{crowds_text};
+ghost use Rattle.uz_explanations.specs.Crowds.{crowds_text};
 ghost use Rattle.uz_explanations.specs.Explanations.{explanation};
 
 use crate::crowd_text;

@@ -3,6 +3,7 @@
 
 mod blocks;
 mod counting;
+mod crowds;
 mod dependence;
 mod differing;
 mod explaining;
@@ -15,11 +16,10 @@ mod reading;
 mod said;
 mod seen;
 mod shown;
-mod telling;
 mod trail_lines;
 mod turns;
 mod ways;
 
+pub use crowds::crowd_text;
 pub use explaining::explain;
 pub use laws::{flash_has_one_reading, told_are_greatest};
-pub use telling::crowd_text;

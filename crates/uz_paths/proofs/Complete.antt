@@ -4,6 +4,7 @@ use Rattle.std.proofs.Common.{false, List, [], ◌∷◌, map, length, subst, if
 use Rattle.std.specs.Prelude.{Contains, Option, Some, ◌&&◌, ◌||◌, ◌==◌, nat_eq, nat_le, slice_get, unwrap_or}
 use Rattle.std.proofs.lemmas.Bool.{cases_eq, cases_lt, or_right, and_parts}
 use Rattle.std.proofs.lemmas.Bool.Decides.{nat_tests}
+use Rattle.std.proofs.lemmas.List.{length-map}
 use Rattle.std.proofs.lemmas.Option.{get_or_from_slice_get, slice_get-get_or, slice_get_within}
 use Rattle.uz_schedule.proofs.Starts.{length_within}
 use Rattle.uz_schedule.specs.Instances.{entry_instance, entry_instance_at, handler_entry, instance_at, is_in_box, level_or_zero}
@@ -22,20 +23,22 @@ use Rattle.uz_schedule.specs.declared.states.Entry.{Entry}
 use Rattle.uz_schedule.specs.declared.states.Instance.{Instance}
 use Rattle.uz_schedule.specs.declared.states.Point.{Point}
 use Rattle.uz_schedule.specs.declared.states.Rest.{Rest}
-use Rattle.uz_rules.specs.Cover.{covered_by}
 use Rattle.uz_rules.specs.Inside.{inside, known_inside, place_of_itself, same_place, KnownInItself, PlaceHolds, PlaceTells}
 use Rattle.uz_rules.specs.Successors.{any_from, lies_at, lies_in_any, lies_in_box, lies_in_point}
 use Rattle.uz_check.specs.Acceptance.{Accepts}
 use Rattle.uz_search.specs.declared.found.Found.{Found}
 use Rattle.uz_search.specs.declared.program.Program.{Program}
 use Rattle.uz_search.specs.Fitting.{ProgramFits, Stands}
-use Rattle.uz_search.specs.Following.{Among, Flash, order_of_program, lines_of}
+use Rattle.uz_search.specs.Following.{Among, Flash, order_of_program, lines_of, split_at}
+use Rattle.uz_search.specs.Pieces.{pieces}
 use Rattle.uz_search.specs.Returning.{ReturnAt}
 use Rattle.uz_search.specs.Searching.{IsEnded}
 use Rattle.uz_search.specs.Widened.{widened}
 use Rattle.uz_search.proofs.TimerLaws.{last_clock}
 use Rattle.uz_search.proofs.VisitingLemmas.{some_is}
+use Rattle.uz_search.proofs.Lists.{in_map, of_map}
 use Rattle.uz_search.specs.Complete.{EndedFallsOnce, EndedLevels, EndedLevelsFit, EndedRestsAreQuiet, EndedRestsEnter, HasSuccessors}
+use Rattle.uz_search.specs.Complete.{PiecesPass}
 use Rattle.uz_search.specs.Limits.{EndedWithinLimits, IsWithinLimits, LiesInWidened}
 use Rattle.uz_search.specs.Made as made_of
 use Rattle.uz_search.specs.Accepting.{ArePointsOf, EndedAccepts, IsRestOf, StandsFor}
@@ -45,12 +48,14 @@ use Rattle.uz_paths.specs.Linked.{AreEntered, SuccessorsFit, LeadsToResults, fir
 use Rattle.uz_paths.specs.Numbers.{Numbered}
 use Rattle.uz_join.specs.Points.{IsOrdered, point_of, vector_after}
 use Rattle.uz_paths.specs.Rests.{rests_of}
+use Rattle.uz_paths.specs.Splits.{SplitsFit, split_for, with_split}
 use Rattle.uz_paths.proofs.Counting.{at_least, sum_few}
+use Rattle.uz_paths.proofs.FewResults.{few_out}
 use Rattle.uz_paths.proofs.MadeSchedule.{EventByLine, is_fit, is_made}
 use Rattle.uz_paths.proofs.NumberLemmas.{numbers_below}
 use Rattle.uz_paths.proofs.RestLemmas.{all_in, few_of, lines_of_rests, of_return, one_rest, rest_among, rest_of_line, rests_rise}
 use Rattle.uz_paths.proofs.SameInstance.{own_instance, vector_instance}
-use Rattle.uz_paths.proofs.WithinPoints.{all_of, own_fits, vector_fits}
+use Rattle.uz_paths.proofs.WithinPoints.{all_of, own_fits, split_known, vector_fits}
 
 -- what is known of an ended search, and of schedules
 pub record Laws : Type 0 where
@@ -65,6 +70,7 @@ pub record Laws : Type 0 where
   pub tells : PlaceTells
   pub holds : PlaceHolds
   pub itself : KnownInItself
+  pub pass : PiecesPass
   pub accepts : EndedAccepts
   pub stand : (image : Flash) (p : Program) (s : Found) (x : Instance) → ProgramFits p → IsEnded image p s → Among s.nodes.keys x
       → Stands p x
@@ -172,7 +178,7 @@ are_entered image p found entry s enter fits ended made fit k rest at = record {
 
 module _ (image : Flash) (p : Program) (entry : Entry) (found : Found) (parts : Parts) (laws : Laws) (fits : ProgramFits p)
     (ended : IsEnded image p found)
-    (few : length found.nodes.keys < 524288) (entering : IsEntry p entry) (returns : ReturnsFromMain p found)
+    (few : length found.nodes.keys < 524288) (splits_fit : SplitsFit p) (entering : IsEntry p entry) (returns : ReturnsFromMain p found)
     (of : ArePartsOf image p entry found parts) where
   abbrev cert : Cert
   cert = cert_of p parts
@@ -224,6 +230,10 @@ module _ (image : Flash) (p : Program) (entry : Entry) (found : Found) (parts : 
       (first_after p parts.schedule rest c)
   first k c rest at le = entered image p found entry parts.schedule laws.enter fits ended made k c rest (among_rests k rest at) le
 
+  -- the certificate has each point with its split
+  cert_at : (n : ℕ) (q : Point) → slice_get parts.points.items n ≡ Some q → slice_get cert.points n ≡ Some (with_split p.splits q)
+  cert_at n q at = in_map (with_split p.splits) parts.points.items n q at
+
   -- a vector's instance at its line, for each latency
   vector_at : (k c : ℕ) (rest : Rest) → slice_get parts.rests.items k ≡ Some rest → c ≤ 3 → instance_at cert k
       (next_line parts.schedule rest.line) c ≡ Some (first_after p parts.schedule rest c)
@@ -236,7 +246,8 @@ module _ (image : Flash) (p : Program) (entry : Entry) (found : Found) (parts : 
       ∙ level x (first k c rest at le) in
       let room = (length_within parts.schedule schedule_fits (next rest.line)).0 in
       ap (λ l. instance_at cert k l c) (same_next rest.line)
-      ∙ (vector_instance cert k rest.cells.items (next rest.line) response c x.level (last rest.line) v.next v.is le (omega arith) there
+      ∙ (vector_instance cert k rest.cells.items (next rest.line) response c x.level (last rest.line) v.next
+      (cert_at k (vector_after response (order_of_program p) rest v.next) v.is) le (omega arith) there
       ∙ (λ j. Some (handler_entry rest.cells.items (sym (same_next rest.line) j) (c + response) x.level (sym (same_last rest.line) j))))
 
   -- a vector says what is known of each of its first states
@@ -246,7 +257,7 @@ module _ (image : Flash) (p : Program) (entry : Entry) (found : Found) (parts : 
       let v = of.points.vectors k rest at in
       record {
         point = vector_after response (order_of_program p) rest v.next;
-        at = v.is;
+        at = cert_at k (vector_after response (order_of_program p) rest v.next) v.is;
         count = c;
         low = omega arith;
         high = le;
@@ -270,33 +281,35 @@ module _ (image : Flash) (p : Program) (entry : Entry) (found : Found) (parts : 
           (λ j. level_at parts.schedule (start_of parts.schedule (v.after.line j) + same j)) ∙ level x (i, node) in
           record {
             point = vector_after response (order_of_program p) v.rest vec.next;
-            at = vec.is;
+            at = cert_at n (vector_after response (order_of_program p) v.rest vec.next) vec.is;
             count = x.clock - response;
             low = omega arith;
             high = omega arith;
             is = ap (λ l. instance_at cert n l (x.clock - response)) (sym v.after.line)
                 ∙ (vector_instance cert n v.rest.cells.items (next v.rest.line) response (x.clock - response) x.level (last v.rest.line)
-                vec.next vec.is (omega arith) (omega arith) there
+                vec.next (cert_at n (vector_after response (order_of_program p) v.rest vec.next) vec.is) (omega arith) (omega arith) there
                 ∙ (λ j. Some (handler_entry v.rest.cells.items (v.after.line j) (same j) x.level (last v.rest.line))) ∙ ap (λ y. Some y)
                 (sym v.after.first.is));
           }
       by (inr h) =
           let own = of.points.own i n x node number h.1 in
           record {
-            point = point_of x own.next;
-            at = own.is;
+            point = with_split p.splits (point_of x own.next);
+            at = cert_at n (point_of x own.next) own.is;
             count = 0;
             low = omega arith;
             high = omega arith;
-            is = own_instance cert n x own.next own.is (limits x (i, node)).pair_count (clock_in x (i, node)) (level x (i, node));
+            is = own_instance cert n x own.next (split_at p x) (cert_at n (point_of x own.next) own.is) (limits x (i, node)).pair_count
+                (clock_in x (i, node)) (level x (i, node));
           }
 
-  succeeded : (x : Instance) (ids : List ℕ) (split : Option ℕ) → LeadsToResults image p found.nodes.keys of.numbers x ids
+  succeeded : (x : Instance) (ids : List ℕ) (split : Option ℕ) → split_at p x ≡ split → LeadsToResults image p found.nodes.keys of.numbers x ids
       → HasSuccessors image p cert ids split x
-  succeeded x ids split named result y after on there =
-      let h = named result y after on there in
-      ap (λ b. b || covered_by cert ids split y) (any_named cert ids h.named.0 h.number y h.named.1
-      (lies laws.tells cert h.number (widened p y) y (known h.place h.number (widened p y) h.node h.is) (laws.widens p y)))
+  succeeded x ids split same named result y after on there =
+      laws.pass p cert ids split result.out.items y (few_out image p x result after) (λ z w piece inside.
+      let h = named result z after on (subst (λ s. Among (pieces s result.out.items) z) (sym same) piece) in
+      any_named cert ids h.named.0 h.number w h.named.1
+      (lies laws.tells cert h.number (widened p z) w (known h.place h.number (widened p z) h.node h.is) inside)) there
 
   -- Points
 
@@ -342,11 +355,11 @@ module _ (image : Flash) (p : Program) (entry : Entry) (found : Found) (parts : 
       }))
       (cases_lt id (length parts.rests.items))
 
-  stands_for : (id l c : ℕ) (point : Point) → slice_get parts.points.items id ≡ Some point → is_in_box point l c ≡ true → StandsFor image p
-      found cert id l c point
-  stands_for id l c point at box = ⊎_elim vector own (which id point at)
+  stands_split : (id l c : ℕ) (point : Point) → slice_get parts.points.items id ≡ Some point → is_in_box point l c ≡ true → StandsFor image
+      p found cert id l c (with_split p.splits point)
+  stands_split id l c point at box = ⊎_elim vector own (which id point at)
     where
-      vector : IsVector id point → StandsFor image p found cert id l c point
+      vector : IsVector id point → StandsFor image p found cert id l c (with_split p.splits point)
       vector v =
           let inside : is_in_box (vector_after response (order_of_program p) v.rest v.ids) l c ≡ true =
           subst (λ (z : Point). is_in_box z l c ≡ true) v.is box in
@@ -364,10 +377,11 @@ module _ (image : Flash) (p : Program) (entry : Entry) (found : Found) (parts : 
             is = ap (λ l. instance_at cert id l c) (sym same ∙ sym (same_next v.rest.line)) ∙ k;
             node = first id c v.rest v.at le;
             pc = sym (ap (λ (z : Point). z.pc) v.is);
-            named = succeeded x point.next.items point.split (of.named.vectors id v.rest point v.below v.at at c le);
+            named = succeeded x point.next.items (split_for p.splits point) (sym (ap (split_for p.splits) v.is))
+                (of.named.vectors id v.rest point v.below v.at at c le);
           }
 
-      own : IsOwn id point → StandsFor image p found cert id l c point
+      own : IsOwn id point → StandsFor image p found cert id l c (with_split p.splits point)
       own o =
           let inside : is_in_box (point_of o.x o.ids) l c ≡ true = subst (λ (z : Point). is_in_box z l c ≡ true) o.is box in
           let parts_of_box = and_parts (nat_le o.x.line l && nat_le l o.x.line) (nat_le 0 c && nat_le c 0) inside in
@@ -382,13 +396,21 @@ module _ (image : Flash) (p : Program) (entry : Entry) (found : Found) (parts : 
           let there : slice_get parts.points.items id ≡ Some (point_of o.x o.ids) = at ∙ ap (λ z. Some z) o.is in
           record {
             x = o.x;
-            is = (λ j. instance_at cert id (sym same j) (sym none j)) ∙ own_instance cert id o.x o.ids there (limits o.x node).pair_count
+            is = (λ j. instance_at cert id (sym same j) (sym none j)) ∙ own_instance cert id o.x o.ids (split_at p o.x)
+                (cert_at id (point_of o.x o.ids) there) (limits o.x node).pair_count
                 (clock_in o.x node) (level o.x node);
             node = node;
             pc = sym (ap (λ (z : Point). z.pc) o.is);
-            named = succeeded o.x point.next.items point.split
+            named = succeeded o.x point.next.items (split_for p.splits point) (sym (ap (split_for p.splits) o.is))
                 (of.named.own o.place id o.x point (slice_get_within found.nodes.keys o.place o.x o.node) o.node o.number o.low at);
           }
+
+  stands_for : (id l c : ℕ) (point : Point) → slice_get cert.points id ≡ Some point → is_in_box point l c ≡ true → StandsFor image p found
+      cert id l c point
+  stands_for id l c point at box =
+      let old = of_map (with_split p.splits) parts.points.items id point at in
+      subst (StandsFor image p found cert id l c) old.2
+      (stands_split id l c old.0 old.1 (subst (λ (z : Point). is_in_box z l c ≡ true) (sym old.2) box))
 
   is_rest : (rest : Rest) → Contains parts.rests.items rest → IsRestOf found cert rest
   is_rest rest has =
@@ -493,35 +515,48 @@ module _ (image : Flash) (p : Program) (entry : Entry) (found : Found) (parts : 
   cells_fit : (k : ℕ) (rest : Rest) → slice_get parts.rests.items k ≡ Some rest → spans_fit (tracked p.head Handler) rest.cells.items ≡ true
   cells_fit k rest at = (limits (first_after p parts.schedule rest 0) (first k 0 rest at (omega arith))).cells
 
-  point_fits : (id : ℕ) (point : Point) → slice_get parts.points.items id ≡ Some point → PointFits p.head (lines_of p)
-      (length parts.points.items) point
-  point_fits id point at = ⊎_elim vector own (which id point at)
+  split_point_fits : (id : ℕ) (point : Point) → slice_get parts.points.items id ≡ Some point → PointFits p.head (lines_of p)
+      (length parts.points.items) (with_split p.splits point)
+  split_point_fits id point at = ⊎_elim vector own (which id point at)
     where
-      vector : IsVector id point → PointFits p.head (lines_of p) (length parts.points.items) point
+      vector : IsVector id point → PointFits p.head (lines_of p) (length parts.points.items) (with_split p.splits point)
       vector v =
           let small = few_clocks p.head.irq in
           let names = subst (λ (z : Point). SuccessorsFit (length parts.points.items) z.next.items) v.is (of.points.names id point at) in
-          subst (PointFits p.head (lines_of p) (length parts.points.items)) (sym v.is)
+          subst (λ (z : Point). PointFits p.head (lines_of p) (length parts.points.items) (with_split p.splits z)) (sym v.is)
           (vector_fits p (length parts.points.items) v.rest.cells.items (next v.rest.line) response (last v.rest.line) v.ids
           (next_below (lines_of p) v.rest.line (rest_line id v.rest v.at)) (omega arith)
           (last_clock (length_of p.schedule v.rest.line) (fits.lengths v.rest.line)) (cells_fit id v.rest v.at)
           (of.points.vectors id v.rest v.at).ordered names)
 
-      own : IsOwn id point → PointFits p.head (lines_of p) (length parts.points.items) point
+      own : IsOwn id point → PointFits p.head (lines_of p) (length parts.points.items) (with_split p.splits point)
       own o =
           let node : Among found.nodes.keys o.x = (o.place, o.node) in
           let names = subst (λ (z : Point). SuccessorsFit (length parts.points.items) z.next.items) o.is (of.points.names id point at) in
-          subst (PointFits p.head (lines_of p) (length parts.points.items)) (sym o.is) (own_fits p (length parts.points.items) o.x o.ids
+          subst (λ (z : Point). PointFits p.head (lines_of p) (length parts.points.items) (with_split p.splits z)) (sym o.is)
+          (own_fits p (length parts.points.items) o.x o.ids (split_at p o.x) (split_known p o.x splits_fit)
           (stand o.x node) (limits o.x node) (let inside = clock_in o.x node in let short =
           (length_within parts.schedule schedule_fits o.x.line).1 in omega arith) o.ordered names)
 
-  few_instances : (id : ℕ) (point : Point) → slice_get parts.points.items id ≡ Some point → instances_of point ≤ 4
-  few_instances id point at = ⊎_elim
+  point_fits : (m id : ℕ) (point : Point) → length parts.points.items ≡ m → slice_get cert.points id ≡ Some point → PointFits p.head
+      (lines_of p) m point
+  point_fits m id point same at =
+      let old = of_map (with_split p.splits) parts.points.items id point at in
+      subst (λ m. PointFits p.head (lines_of p) m point) same
+      (subst (PointFits p.head (lines_of p) (length parts.points.items)) old.2 (split_point_fits id old.0 old.1))
+
+  few_bare : (id : ℕ) (point : Point) → slice_get parts.points.items id ≡ Some point → instances_of point ≤ 4
+  few_bare id point at = ⊎_elim
       (λ v. subst (λ (z : Point). instances_of z ≤ 4) (sym v.is) (let l = next v.rest.line in let none : l - l ≡ 0 = omega arith in
       subst (λ n. (n + 1) * 4 ≤ 4) (sym none) (omega arith)))
       (λ o. subst (λ (z : Point). instances_of z ≤ 4) (sym o.is) (let l = o.x.line in let none : l - l ≡ 0 = omega arith in
       subst (λ n. (n + 1) * 1 ≤ 4) (sym none) (omega arith)))
       (which id point at)
+
+  few_instances : (id : ℕ) (point : Point) → slice_get cert.points id ≡ Some point → instances_of point ≤ 4
+  few_instances id point at =
+      let old = of_map (with_split p.splits) parts.points.items id point at in
+      subst (λ (z : Point). instances_of z ≤ 4) old.2 (few_bare id old.0 old.1)
 
   rest_fits : (k : ℕ) (rest : Rest) → slice_get parts.rests.items k ≡ Some rest
       → RestFits p.head (lines_of p) (length parts.points.items) rest
@@ -571,26 +606,42 @@ module _ (image : Flash) (p : Program) (entry : Entry) (found : Found) (parts : 
         };
       }
 
+  -- among so many points
+  fits_points : (m : ℕ) → length parts.points.items ≡ m → RestsFit p.head (lines_of p) m parts.rests.items × EntryFits p.head (lines_of p) m
+      parts.entry × ((id : ℕ) (point : Point) → slice_get cert.points id ≡ Some point → PointFits p.head (lines_of p) m point)
+  fits_points m same = (
+    subst (λ m. RestsFit p.head (lines_of p) m parts.rests.items) same (record {
+      few = few_of found.returns.items parts.rests.items (lines_of p) of.rests ended.lines;
+      each = all_of (RestFits p.head (lines_of p) (length parts.points.items)) parts.rests.items rest_fits;
+      rise = ap (λ rs. rises (map (λ r. r.line) rs)) of.rests ∙ rests_rise 0 0 0 found.returns.items (omega arith);
+    }),
+    subst (λ m. EntryFits p.head (lines_of p) m parts.entry) same
+        (subst (EntryFits p.head (lines_of p) (length parts.points.items)) (sym of.enters)
+        (entry_fits parts.entry.id (let e = of.entry_number in numbers_below response (order_of_program p) parts.rests.items
+        found.nodes.keys
+        of.numbers (length parts.points.items) of.numbered e.place parts.entry.id e.is))),
+    λ id point at. point_fits m id point same at,
+  )
+
+  -- as many points with their splits
+  as_many : length parts.points.items ≡ length cert.points
+  as_many = sym (length-map parts.points.items (with_split p.splits))
+
   -- among the lines of the schedule, which are the program's
-  fits_lines : (n : ℕ) → lines_of p ≡ n → RestsFit p.head n (length parts.points.items) parts.rests.items × EntryFits p.head n
-      (length parts.points.items) parts.entry × PointsFit p.head n parts.points.items
-  fits_lines n same = subst (λ n. RestsFit p.head n (length parts.points.items) parts.rests.items × EntryFits p.head n
-      (length parts.points.items) parts.entry × PointsFit p.head n parts.points.items) same (
+  fits_lines : (n : ℕ) → lines_of p ≡ n → RestsFit p.head n (length cert.points) parts.rests.items × EntryFits p.head n
+      (length cert.points) parts.entry × PointsFit p.head n cert.points
+  fits_lines n same = subst (λ n. RestsFit p.head n (length cert.points) parts.rests.items × EntryFits p.head n
+      (length cert.points) parts.entry × PointsFit p.head n cert.points) same (
+      let fit = fits_points (length cert.points) as_many in (
+        fit.0,
+        fit.1,
         record {
-          few = few_of found.returns.items parts.rests.items (lines_of p) of.rests ended.lines;
-          each = all_of (RestFits p.head (lines_of p) (length parts.points.items)) parts.rests.items rest_fits;
-          rise = ap (λ rs. rises (map (λ r. r.line) rs)) of.rests ∙ rests_rise 0 0 0 found.returns.items (omega arith);
+          some = omega (arith, some_point, as_many);
+          few = omega (arith, few_points, as_many);
+          each = all_of (PointFits p.head (lines_of p) (length cert.points)) cert.points fit.2;
+          instances = (let sum = sum_few instances_of cert.points few_instances in omega (arith, few_points, as_many, sum));
         },
-        subst (EntryFits p.head (lines_of p) (length parts.points.items)) (sym of.enters)
-            (entry_fits parts.entry.id (let e = of.entry_number in numbers_below response (order_of_program p) parts.rests.items
-            found.nodes.keys
-            of.numbers (length parts.points.items) of.numbered e.place parts.entry.id e.is)),
-        record {
-          some = some_point;
-          few = omega (arith, few_points);
-          each = all_of (PointFits p.head (lines_of p) (length parts.points.items)) parts.points.items point_fits;
-          instances = (let sum = sum_few instances_of parts.points.items few_instances in omega (arith, few_points));
-        },
+      )
       )
 
   pub well_formed : WellFormed cert

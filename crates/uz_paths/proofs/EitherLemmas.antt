@@ -1,6 +1,6 @@
 -- What comes of two searches, one by the rules of each version.
-use Rattle.std.proofs.Common.{◌≡◌, ◌⊎◌, ◌∙◌, inl, inr, sym, ap, ℕ, true, false, List, subst}
-use Rattle.std.specs.Prelude.{Result, Ok, Err, IsOk}
+use Rattle.std.proofs.Common.{◌≡◌, ◌⊎◌, inl, inr, sym, ℕ, true, false, List, subst}
+use Rattle.std.specs.Prelude.{Result, Err, IfOk, IsOk}
 use Rattle.std.specs.Ordering.{nat_cmp}
 use Rattle.std.specs.FinMap.{FinMap}
 use Rattle.avr_asm.specs.declared.output.Hint.{Hint as SourceHint}
@@ -19,13 +19,6 @@ pub told_cause : (image : FinMap nat_cmp ℕ) (irq : Response) (hints : List Sou
     → Cause image irq hints told
 told_cause image irq hints first second told a b (inl e) = subst (Cause image irq hints) (sym e) (any_cause Two image irq hints first a)
 told_cause image irq hints first second told a b (inr e) = subst (Cause image irq hints) (sym e) (any_cause Three image irq hints second b)
-
--- where the second search has a certificate or lacks memory, the answer does
-pub told_memory : {A : Type 0} (searched answer : Result A NotFound) (second told : NotFound) → searched ≡ Err second → answer ≡ Err told
-    → IsOk searched ⊎ (searched ≡ Err Memory) → (second ≡ Memory → told ≡ Memory) → IsOk answer ⊎ (answer ≡ Err Memory)
-told_memory searched answer second told is told_is (inl ok) keeps = absurd (let refused = subst IsOk is ok in cc)
-told_memory searched answer second told is told_is (inr memory) keeps =
-    inr (told_is ∙ ap Err (keeps (err_is second Memory (sym is ∙ memory))))
 
 -- a refusal by rules is neither of a hint nor of memory
 pub not_hint : {A : Type 0} (first : NotFound) (index : ℕ) → is_by_rules first ≡ true
@@ -46,15 +39,24 @@ complete_other image irq hints answer (Hint index) is other cause (inr none) = a
 complete_other image irq hints answer (NoRest count) is other cause none = absurd (cc)
 complete_other image irq hints answer Memory is other cause none = inr is
 
--- a refusal by the rules of version 2 has its cause
-pub caused : (image : FinMap nat_cmp ℕ) (irq : Response) (hints : List SourceHint) (first : NotFound) → is_by_rules first ≡ true
-    → CauseBy (only Two) image irq hints first → NoCause Two image irq hints → ⊥
-caused image irq hints first by_rules cause none = none first (λ h. let b = subst (λ z. is_by_rules z ≡ true) h by_rules in cc) cause
+-- a refusal by the rules of a version has its cause
+pub caused : (version : RuleVersion) (image : FinMap nat_cmp ℕ) (irq : Response) (hints : List SourceHint) (why : NotFound)
+    → is_by_rules why ≡ true → CauseBy (only version) image irq hints why → NoCause version image irq hints → ⊥
+caused version image irq hints why by_rules cause none = none why (λ h. let b = subst (λ z. is_by_rules z ≡ true) h by_rules in cc) cause
 
 -- so that there is none by those of version 3
 pub complete_again : {A : Type 0} (image : FinMap nat_cmp ℕ) (irq : Response) (hints : List SourceHint) (answer : Result A NotFound)
     (first : NotFound) → is_by_rules first ≡ true → CauseBy (only Two) image irq hints first
     → (NoCause Three image irq hints → IsOk answer ⊎ (answer ≡ Err Memory))
     → NoCause Two image irq hints ⊎ NoCause Three image irq hints → IsOk answer ⊎ (answer ≡ Err Memory)
-complete_again image irq hints answer first by_rules cause again (inl none) = absurd (caused image irq hints first by_rules cause none)
+complete_again image irq hints answer first by_rules cause again (inl none) =
+    absurd (caused Two image irq hints first by_rules cause none)
 complete_again image irq hints answer first by_rules cause again (inr none) = again none
+
+-- and what is found is without splits
+pub whole_again : {A : Type 0} (P : A → Type 0) (image : FinMap nat_cmp ℕ) (irq : Response) (hints : List SourceHint)
+    (answer : Result A NotFound) (first : NotFound) → is_by_rules first ≡ true → CauseBy (only Two) image irq hints first
+    → (NoCause Three image irq hints → IfOk answer P) → NoCause Two image irq hints ⊎ NoCause Three image irq hints → IfOk answer P
+whole_again P image irq hints answer first by_rules cause again (inl none) =
+    absurd (caused Two image irq hints first by_rules cause none)
+whole_again P image irq hints answer first by_rules cause again (inr none) = again none

@@ -1,9 +1,8 @@
 -- How many results an instance has: at most 16, and the handler's first states at most two.
-use Rattle.std.proofs.Common.{◌≡◌, ◌∙◌, sym, ap, refl, arith, ℕ, zero, suc, ◌+◌, ◌-◌, ◌<◌, ◌≤◌, Bool, true, false, List, [], ◌∷◌, ◌++◌}
-use Rattle.std.proofs.Common.{length, map, Option, Some, None, Ok, Err, subst}
-use Rattle.std.specs.Prelude.{◌||◌, nat_le, nat_lt}
+use Rattle.std.proofs.Common.{◌≡◌, ap, refl, arith, ℕ, zero, suc, ◌+◌, ◌-◌, ◌<◌, ◌≤◌, Bool, true, false, List, [], ◌∷◌, ◌++◌}
+use Rattle.std.proofs.Common.{length, map, Option, Some, None, Ok, Err}
+use Rattle.std.specs.Prelude.{nat_le, nat_lt}
 use Rattle.std.proofs.lemmas.Bool.Decides.{nat_tests}
-use Rattle.std.proofs.lemmas.List.{length-map}
 use Rattle.std.proofs.lemmas.Bool.{or_parts}
 use Rattle.avr_table.specs.declared.Outcome.{Outcome}
 use Rattle.avr_table.specs.declared.Outcome.TheVariants as outcome
@@ -26,9 +25,10 @@ use Rattle.uz_transfer.specs.Step.{exits_of, following_of}
 use Rattle.uz_transfer.specs.Values.{pair_range}
 use Rattle.uz_rules.specs.declared.next.Next.{Next}
 use Rattle.uz_search.specs.declared.program.Program.{Program}
-use Rattle.uz_search.specs.Following.{After, Flash}
+use Rattle.uz_search.specs.Following.{After, Flash, split_at}
 pub use Rattle.uz_search.proofs.OneResult.{one_next}
-use Rattle.uz_search.proofs.OneResult.{exits_at, few_of_after, one_result}
+use Rattle.uz_search.proofs.PiecesLaws.{few_pieces}
+use Rattle.uz_search.proofs.OneResult.{few_of_after, one_result}
 use Rattle.uz_paths.specs.Linked.{HasFew}
 
 -- an instance that has results isn't refused
@@ -94,19 +94,25 @@ exits_few image head (Return false) clocks following most x some aims fine = ome
 exits_few image head NoOperation clocks following most x some aims fine = omega arith
 exits_few image head e clocks following most x some aims fine = omega arith
 
-few_by : (image : Flash) (p : Program) (x : Instance) (most : ℕ) → 2 ≤ most → AimsFew most x → HasFew image p x most
+-- results are few
+few_by : (image : Flash) (p : Program) (x : Instance) (most : ℕ) → 2 ≤ most → AimsFew most x → (result : Next) → After image p x (Ok result)
+    → length result.out.items ≤ most
 few_by image p x most some aims result after =
     let s = few_of_after image p x result after in
     let few = exits_few image p.head (effect_of s.row) (clocks_of s.row) (following_of (words_of s.row) x) most x some aims s.fails in
     omega (arith, s.few, few)
 
-pub few_results : (image : Flash) (p : Program) (x : Instance) → HasFew image p x 16
-few_results image p x = few_by image p x 16 (omega arith) aims
+pub few_out : (image : Flash) (p : Program) (x : Instance) (result : Next) → After image p x (Ok result) → length result.out.items ≤ 16
+few_out image p x = few_by image p x 16 (omega arith) aims
   where
     aims : AimsFew 16 x
     aims h = let low = (or_parts (nat_le (16 + (pair_range x 30).lo) (pair_range x 30).hi) (nat_lt 0x7FFF (pair_range x 30).hi) h).0 in
         let less : (pair_range x 30).hi < 16 + (pair_range x 30).lo = grind (arith, nat_tests) in
         omega arith
+
+-- and so are the pieces in which they go on
+pub few_results : (image : Flash) (p : Program) (x : Instance) → HasFew image p x 16
+few_results image p x result after = few_pieces (split_at p x) result.out.items (few_out image p x result after)
 
 -- of the handler's first states nothing is known of Z, so that an indirect jump is refused
 pub few_entries : (image : Flash) (p : Program) (cells : List Ends) (line clock level top : ℕ) → HasFew image p

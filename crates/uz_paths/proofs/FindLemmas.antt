@@ -1,5 +1,5 @@
 -- What the parts of a certificate give, and what a refusal of the search is licensed by.
-use Rattle.std.proofs.Common.{◌≡◌, ◌⊎◌, ◌∙◌, inl, inr, sym, ap, refl, ℕ, List, subst}
+use Rattle.std.proofs.Common.{◌≡◌, ◌⊎◌, ◌∙◌, inl, inr, sym, ap, refl, ℕ, List, [], subst}
 use Rattle.std.specs.Prelude.{None, Option, Some, Result, Ok, Err, IfOk, IfErr, IfSome, IsOk}
 use Rattle.std.specs.Ordering.{nat_cmp}
 use Rattle.std.specs.FinMap.{FinMap}
@@ -24,9 +24,11 @@ use Rattle.uz_paths.specs.Faults.{IsFine, FactPart, FactsFine}
 use Rattle.uz_paths.specs.Reading.{IsReading}
 use Rattle.uz_paths.specs.declared.certificate.Parts.{Parts}
 use Rattle.uz_paths.specs.Certificate.{ArePartsOf, cert_of}
-use Rattle.uz_paths.specs.Finding.{instance_limit, any_version, only, Cause, CauseBy, IsBy, Licensed, NoCause, IsFoundBy, IsAsked, Versions}
+use Rattle.uz_paths.specs.Finding.{instance_limit, any_version, only, Cause, CauseBy, IsBy, Licensed, NoCause, IsFoundBy, IsAsked}
+use Rattle.uz_paths.specs.Finding.{IsAskedWhole, IsAskedWith}
 use Rattle.uz_paths.specs.ProgramOf.{IsProgramOf, start_entry, entry_with}
 use Rattle.uz_paths.proofs.RestLemmas.{is_return}
+use Rattle.uz_paths.proofs.SplitLemmas.{none_fit}
 
 pub found_by : (image : FinMap nat_cmp ℕ) (p : Program) (entry : Entry) (found : Found) (parts : Parts) (cert : Cert) → cert ≡ cert_of p
     parts → ArePartsOf image p entry found parts → IsEnded image p found
@@ -50,17 +52,17 @@ pub facts_fine : (image : FinMap nat_cmp ℕ) (irq : Response) (hints : List Sou
 facts_fine image irq hints r is i h there = fact_part image irq hints i h (is.fine i h (slice_get_within hints i h there) there)
 
 pub licensed : (version : RuleVersion) (image : FinMap nat_cmp ℕ) (irq : Response) (hints : List SourceHint) (p : Program) (e : NotFound)
-    → IsProgramOf irq hints p → p.head.version ≡ version → Refusal image p instance_limit e → CauseBy (only version) image irq hints e
-licensed version image irq hints p (Stuck trail why) of rules shows = record { program = p; of = of; rules = rules; shows = shows }
-licensed version image irq hints p (Split first second) of rules shows = record { program = p; of = of; rules = rules; shows = shows }
-licensed version image irq hints p (Full instances) of rules shows = record { program = p; of = of; rules = rules; shows = shows }
-licensed version image irq hints p (Hint index) of rules shows = absurd shows
-licensed version image irq hints p (NoRest count) of rules shows = record { program = p; of = of; rules = rules; shows = shows }
-licensed version image irq hints p Memory of rules shows = tt
+    → IsProgramOf irq hints p → p.head.version ≡ version → p.splits ≡ [] → Refusal image p instance_limit e → CauseBy (only version) image irq hints e
+licensed version image irq hints p (Stuck trail why) of rules whole shows = record { program = p; of = of; rules = rules; whole = whole; shows = shows }
+licensed version image irq hints p (Split first second) of rules whole shows = record { program = p; of = of; rules = rules; whole = whole; shows = shows }
+licensed version image irq hints p (Full instances) of rules whole shows = record { program = p; of = of; rules = rules; whole = whole; shows = shows }
+licensed version image irq hints p (Hint index) of rules whole shows = absurd shows
+licensed version image irq hints p (NoRest count) of rules whole shows = record { program = p; of = of; rules = rules; whole = whole; shows = shows }
+licensed version image irq hints p Memory of rules whole shows = tt
 
 any_licence : (version : RuleVersion) (image : FinMap nat_cmp ℕ) (irq : Response) (hints : List SourceHint) (e : NotFound)
     → Licensed (only version) image irq hints e → Licensed any_version image irq hints e
-any_licence version image irq hints e h = record { program = h.program; of = h.of; rules = tt; shows = h.shows }
+any_licence version image irq hints e h = record { program = h.program; of = h.of; rules = tt; whole = h.whole; shows = h.shows }
 
 -- a cause by the rules of one version is a cause
 pub any_cause : (version : RuleVersion) (image : FinMap nat_cmp ℕ) (irq : Response) (hints : List SourceHint) (e : NotFound)
@@ -84,29 +86,40 @@ ok_by version image p entry (Ok (Some cert)) rules found = ap (λ h. h.version) 
 ok_by version image p entry (Ok None) rules found = tt
 ok_by version image p entry (Err why) rules found = tt
 
-pub asked : (image : FinMap nat_cmp ℕ) (irq : Response) (hints : List SourceHint) (r : Reading) (p : Program) (entry : Entry) (cert : Cert)
-    → IsReading image irq hints r → IsProgramOf irq hints p → p.head ≡ r.head
-    → entry ≡ entry_with r.registers r.head r.start 0 → IsFoundBy image p entry cert → IsAsked image irq hints cert
-asked image irq hints r p entry cert is of head e found =
+pub asked : (allowed : Program → Type 0) (image : FinMap nat_cmp ℕ) (irq : Response) (hints : List SourceHint) (r : Reading) (p : Program)
+    (entry : Entry) (cert : Cert) → IsReading image irq hints r → IsProgramOf irq hints p → allowed p → p.head ≡ r.head
+    → entry ≡ entry_with r.registers r.head r.start 0 → IsFoundBy image p entry cert → IsAskedWith allowed image irq hints cert
+asked allowed image irq hints r p entry cert is of splits head e found =
     let start : r.start ≡ of.start = same_Some r.start of.start (sym is.start ∙ of.starts_at) in
     let same : entry ≡ start_entry hints p.head of.start 0 =
     e ∙ (ap (λ rs. entry_with rs r.head r.start 0) is.registers ∙ (ap (λ h. start_entry hints h r.start 0) (sym head)
     ∙ ap (λ s. start_entry hints p.head s 0) start)) in
-    record { program = p; of = of; found = subst (λ x. IsFoundBy image p x cert) same found }
+    record { program = p; of = of; splits = splits; found = subst (λ x. IsFoundBy image p x cert) same found }
 
-pub ok_asked : (image : FinMap nat_cmp ℕ) (irq : Response) (hints : List SourceHint) (r : Reading) (p : Program) (entry : Entry)
-    (answer : Result (Option Cert) NotFound) → IsReading image irq hints r → IsProgramOf irq hints p → p.head ≡ r.head
-    → entry ≡ entry_with r.registers r.head r.start 0 → IfOk answer (λ o. IfSome o (IsFoundBy image p entry))
-    → IfOk answer (λ o. IfSome o (IsAsked image irq hints))
-ok_asked image irq hints r p entry (Ok (Some cert)) is of head e found = asked image irq hints r p entry cert is of head e found
-ok_asked image irq hints r p entry (Ok None) is of head e found = tt
-ok_asked image irq hints r p entry (Err why) is of head e found = tt
+pub ok_asked : (allowed : Program → Type 0) (image : FinMap nat_cmp ℕ) (irq : Response) (hints : List SourceHint) (r : Reading)
+    (p : Program) (entry : Entry) (answer : Result (Option Cert) NotFound) → IsReading image irq hints r → IsProgramOf irq hints p
+    → allowed p → p.head ≡ r.head → entry ≡ entry_with r.registers r.head r.start 0
+    → IfOk answer (λ o. IfSome o (IsFoundBy image p entry)) → IfOk answer (λ o. IfSome o (IsAskedWith allowed image irq hints))
+ok_asked allowed image irq hints r p entry (Ok (Some cert)) is of splits head e found =
+    asked allowed image irq hints r p entry cert is of splits head e found
+ok_asked allowed image irq hints r p entry (Ok None) is of splits head e found = tt
+ok_asked allowed image irq hints r p entry (Err why) is of splits head e found = tt
+
+-- what is asked without splits is asked
+pub any_splits : (image : FinMap nat_cmp ℕ) (irq : Response) (hints : List SourceHint) (cert : Cert) → IsAskedWhole image irq hints cert
+    → IsAsked image irq hints cert
+any_splits image irq hints cert a = record { program = a.program; of = a.of; splits = none_fit a.program a.splits; found = a.found }
+
+pub ok_any_splits : {E : Type 0} (image : FinMap nat_cmp ℕ) (irq : Response) (hints : List SourceHint) (answer : Result Cert E)
+    → IfOk answer (IsAskedWhole image irq hints) → IfOk answer (IsAsked image irq hints)
+ok_any_splits image irq hints (Ok cert) a = any_splits image irq hints cert a
+ok_any_splits image irq hints (Err why) a = tt
 
 pub err_cause : {A : Type 0} (version : RuleVersion) (image : FinMap nat_cmp ℕ) (irq : Response) (hints : List SourceHint) (p : Program)
-    (answer : Result A NotFound) → IsProgramOf irq hints p → p.head.version ≡ version
+    (answer : Result A NotFound) → IsProgramOf irq hints p → p.head.version ≡ version → p.splits ≡ []
     → IfErr answer (Refusal image p instance_limit) → IfErr answer (CauseBy (only version) image irq hints)
-err_cause version image irq hints p (Ok found) of rules shows = tt
-err_cause version image irq hints p (Err e) of rules shows = licensed version image irq hints p e of rules shows
+err_cause version image irq hints p (Ok found) of rules whole shows = tt
+err_cause version image irq hints p (Err e) of rules whole shows = licensed version image irq hints p e of rules whole shows
 
 pub no_hint : (r : Reading) (index : ℕ) → Ok r ≡ Err index → ⊥
 no_hint r index e = cc

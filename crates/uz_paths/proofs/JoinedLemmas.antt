@@ -1,5 +1,5 @@
 -- Joining points leaves what was asked of a certificate.
-use Rattle.std.proofs.Common.{◌≡◌, ◌∙◌, sym, ap, refl, subst, ℕ, [], length, map}
+use Rattle.std.proofs.Common.{◌≡◌, ◌∙◌, sym, ap, refl, subst, ℕ, List, [], length, map}
 use Rattle.std.specs.Prelude.{Contains, None, Option, Some, slice_get, Result, Ok, Err, IfOk, IfSome}
 use Rattle.std.specs.Ordering.{nat_cmp}
 use Rattle.std.specs.FinMap.{FinMap}
@@ -10,6 +10,7 @@ use Rattle.uz_schedule.specs.declared.lines.Schedule.{Schedule}
 use Rattle.uz_schedule.specs.declared.states.Entry.{Entry}
 use Rattle.uz_schedule.specs.declared.states.Rest.{Rest}
 use Rattle.uz_join.specs.Joined.{SameButPoints, rest_unnumbered}
+use Rattle.uz_join.specs.Coverage.{SaysInstances}
 use Rattle.uz_search.specs.declared.program.Program.{Program}
 use Rattle.uz_schedule.specs.declared.states.Instance.{Instance}
 use Rattle.uz_search.proofs.Lists.{in_map, of_map}
@@ -22,6 +23,7 @@ use Rattle.uz_paths.specs.Finding.{IsFoundBy, IsReturn}
 use Rattle.uz_paths.specs.JoinedParts.{AreJoinedOf, joined_cert}
 use Rattle.uz_paths.specs.Rests.{rests_of}
 use Rattle.uz_paths.proofs.RestLemmas.{is_return}
+use Rattle.uz_paths.proofs.SplitLemmas.{still_say}
 
 -- a return is told of but the vector's number
 again : (image : FinMap nat_cmp ℕ) (p : Program) (a b : Rest) → rest_unnumbered a ≡ rest_unnumbered b → IsReturn image p a → IsReturn image
@@ -100,3 +102,11 @@ pub found_ok : (image : FinMap nat_cmp ℕ) (p : Program) (entry : Entry) (found
     → ((x : Instance) → Among found.nodes.keys x → OnTrail image p x) → IfOk answer (IsFoundBy image p entry)
 found_ok image p entry found parts (Ok cert) is a ended trails = found_parts image p entry found parts cert is a ended trails
 found_ok image p entry found parts (Err q) is a ended trails = tt
+
+-- and its points say what the instances say
+pub said_ok : (p : Program) (nodes : List Instance) (parts : JoinedParts) (answer : Result Cert Program)
+    → IfOk answer (λ cert. cert ≡ joined_cert p parts) → SaysInstances nodes parts.points.items
+    → IfOk answer (λ cert. SaysInstances nodes cert.points)
+said_ok p nodes parts (Ok cert) is said = subst (λ (z : Cert). SaysInstances nodes z.points) (sym is)
+    (still_say p.splits nodes parts.points.items said)
+said_ok p nodes parts (Err q) is said = tt

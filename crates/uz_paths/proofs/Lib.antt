@@ -9,6 +9,7 @@ pub mod EitherLemmas
 pub mod FewResults
 pub mod MadeSchedule
 pub mod SameInstance
+pub mod SplitLemmas
 pub mod WithinPoints
 pub mod Starts
 pub mod Counting

@@ -1,6 +1,6 @@
 -- The rules of a hint are what is asked of it, and one of them is the first that it breaks.
-use Rattle.std.proofs.Common.{◌≡◌, ◌≢◌, ◌∙◌, sym, ap, refl, subst, arith, ℕ, ◌+◌, ◌<◌, ◌≤◌, Bool, true, false, List, length, nat_lt}
-use Rattle.std.specs.Prelude.{◌⊎◌, Option, Some, None, IsSome, IfSome, MatchOption, slice_get, is_some}
+use Rattle.std.proofs.Common.{◌≡◌, ◌∙◌, sym, ap, refl, subst, arith, ℕ, ◌<◌, Bool, true, false, List, length, nat_lt}
+use Rattle.std.specs.Prelude.{◌⊎◌, Option, Some, None, IsSome, IfSome, MatchOption, slice_get}
 use Rattle.std.proofs.Common.{inl, inr}
 use Rattle.std.specs.Ordering.{nat_cmp}
 use Rattle.std.specs.FinMap.{FinMap}
@@ -8,16 +8,15 @@ use Rattle.std.proofs.lemmas.Bool.Decides.{nat_tests}
 use Rattle.std.proofs.lemmas.Option.{slice_get_within, same_Some}
 use Rattle.avr_asm.specs.declared.output.Hint.{Hint}
 use Rattle.avr_asm.specs.declared.output.Hint.TheVariants.{Start, Lines, Half, Stack, Cell, Fact}
-use Rattle.uz_schedule.specs.Schedule.{half_line}
 use Rattle.uz_schedule.specs.declared.kinds.Kind.{Kind}
 use Rattle.uz_schedule.specs.declared.kinds.Response.{Response}
 use Rattle.uz_paths.specs.declared.rules.Rule.{Rule}
 use Rattle.uz_paths.specs.declared.rules.Rule.TheVariants as rule
 use Rattle.uz_paths.specs.declared.words.FrameSize.{FrameSize}
 use Rattle.uz_paths.specs.Words.{first_start, first_lines, first_stack}
-use Rattle.uz_paths.specs.Faults.{HalvesFit, StartFine, LinesFine, HalfFine, StackFine, CellRangeFine, CellPlaceFine, CellFine, FactFine}
-use Rattle.uz_paths.specs.Faults.{IsFine, FirstFault, IsMissing, HintRefusal}
-use Rattle.uz_paths.specs.Rules.{StandsIn, FallsInHalf, Obeys, hint_rules, ObeysFirst, IsBroken, missing, unless_named, missing_in, BreaksFirst}
+use Rattle.uz_paths.specs.Faults.{HalvesFit, StartFine, LinesFine, HalfFine, StackFine, CellRangeFine, CellPlaceFine, FactFine}
+use Rattle.uz_paths.specs.Faults.{IsFine, HintRefusal}
+use Rattle.uz_paths.specs.Rules.{StandsIn, FallsInHalf, Obeys, hint_rules, ObeysFirst, IsBroken, missing, unless_named, missing_in}
 use Rattle.uz_paths.specs.Rules.{StartObeys, LinesObey, HalfObeys, StackObeys, RangeObeys, PlaceObeys, FactObeys, IsRuleAt, NoRuleAt}
 
 -- ---- the rules together

@@ -1,7 +1,7 @@
 -- What a point says where it stands is the instance that it is made of.
 use Rattle.std.proofs.Common.{◌≡◌, ◌∙◌, sym, ap, refl, arith, ℕ, zero, suc, ◌+◌, ◌*◌, ◌%◌, ◌<◌, ◌≤◌, Bool, true, false, List, [], ◌∷◌, map}
 use Rattle.std.proofs.Common.{length, if◌then◌else◌}
-use Rattle.std.specs.Prelude.{Some, None, ◌&&◌, nat_eq, nat_le, nat_lt, option_and_then, slice_get, slice_index_or, ℤ, pos, ◌+ℤ◌}
+use Rattle.std.specs.Prelude.{Option, Some, None, ◌&&◌, nat_eq, nat_le, nat_lt, option_and_then, slice_get, slice_index_or, ℤ, pos, ◌+ℤ◌}
 use Rattle.std.specs.Prelude.{◌*ℤ◌}
 use Rattle.std.proofs.Math.Nat.{mod-eq_of_lt}
 use Rattle.std.proofs.lemmas.Bool.Decides.{nat_tests}
@@ -138,12 +138,13 @@ own_same x next three = λ i. record x {
     pairs = ap (λ regs. pairs_of x.line 0 regs (pair_facts x.kind x.regs x.pairs x.flags)) (vals_back x.line 0 x.regs) ∙ pairs_back x.kind
         x.line x.regs x.pairs x.flags three
 
--- the point of an instance, at its line
-pub own_instance : (cert : Cert) (id : ℕ) (x : Instance) (next : List ℕ) → slice_get cert.points id ≡ Some (point_of x next)
+-- the point of an instance, at its line, whatever it is split by
+pub own_instance : (cert : Cert) (id : ℕ) (x : Instance) (next : List ℕ) (split : Option ℕ)
+    → slice_get cert.points id ≡ Some (record (point_of x next) { split = split })
     → length x.pairs ≡ 3 → x.clock < length_of cert.schedule x.line
     → level_at cert.schedule (start_of cert.schedule x.line + x.clock) ≡ Some x.level → instance_at cert id x.line 0 ≡ Some x
-own_instance cert id x next at three less level =
-    instance_placed cert id x.line 0 x.clock x.level (point_of x next) at
+own_instance cert id x next split at three less level =
+    instance_placed cert id x.line 0 x.clock x.level (record (point_of x next) { split = split }) at
     (box_true (nat_le x.line x.line) (nat_le x.line x.line) (nat_le 0 0) (nat_le 0 0) (le_true x.line x.line (omega arith))
     (le_true x.line x.line (omega arith)) refl refl)
     clock less level

@@ -1,7 +1,7 @@
 -- The points of instances are within a certificate's limits.
 use Rattle.std.proofs.Common.{◌≡◌, ◌≢◌, ◌∙◌, sym, ap, refl, arith, inl, inr, ◌⊎◌, ℕ, zero, suc, ◌+◌, ◌*◌, ◌<◌, ◌≤◌, Bool, true}
 use Rattle.std.proofs.Common.{false, List, [], ◌∷◌, map, All, length, get_or, subst, if◌then◌else◌}
-use Rattle.std.specs.Prelude.{None, Some, ◌&&◌, nat_eq, nat_lt, slice_get, slice_index_or, replicate}
+use Rattle.std.specs.Prelude.{Option, None, Some, ◌&&◌, nat_eq, nat_lt, slice_get, slice_index_or, replicate}
 use Rattle.std.proofs.lemmas.Bool.Decides.{nat_tests}
 use Rattle.std.proofs.lemmas.List.{length-map}
 use Rattle.std.proofs.lemmas.List.Elements.{All-cons, All-nil}
@@ -29,12 +29,15 @@ use Rattle.uz_schedule.specs.declared.kinds.RuleVersion.{RuleVersion}
 use Rattle.uz_schedule.specs.declared.kinds.RuleVersion.TheVariants.{Two, Three}
 use Rattle.uz_schedule.specs.declared.states.Instance.{Instance}
 use Rattle.uz_schedule.specs.declared.states.Point.{Point}
-use Rattle.uz_search.specs.Following.{lines_of}
+use Rattle.uz_transfer.specs.Kinds.{is_main}
+use Rattle.uz_search.specs.Following.{lines_of, split_at}
+use Rattle.uz_search.specs.Pieces.{split_in}
 use Rattle.uz_search.specs.declared.program.Program.{Program}
 use Rattle.uz_search.specs.Fitting.{Stands}
 use Rattle.uz_search.proofs.Lists.{of_map}
 use Rattle.uz_search.specs.Limits.{ComparedIsThere, ComparedKnown, IsOpen, IsWithinLimits, OldFits}
 use Rattle.uz_paths.specs.Linked.{SuccessorsFit}
+use Rattle.uz_paths.specs.Splits.{SplitsFit}
 use Rattle.uz_join.specs.Points.{AreOrdered, AreOrderedVals, IsOrdered, IsOrderedCompared, IsOrderedVal, byte_fact, fact_of, old_facts}
 use Rattle.uz_join.specs.Points.{pair_fact, point_of, range_fact, same_ends, vector_point}
 use Rattle.uz_paths.proofs.SameInstance.{ends_same, eq_of}
@@ -174,22 +177,44 @@ compared_fits (Result d k old) there ordered = (there.0, there.1, ordered)
 compared_fits (PairResult d k old) there ordered = (there.0, there.1, ordered)
 compared_fits (Value d) there ordered = there
 
-pub known_fits : (version : RuleVersion) (kind : Kind) (p : Point) → p.split ≡ None → ComparedKnown version kind p.compared
+-- only main is split, by registers, and only version 3 knows of it
+abbrev pub SplitKnown : RuleVersion → Kind → Option ℕ → Type 0
+SplitKnown version kind split = (r : ℕ) → split ≡ Some r → (kind ≡ Main) × (r < 32) × (version ≡ Three)
+
+pub split_known : (p : Program) (x : Instance) → SplitsFit p → SplitKnown p.head.version x.kind (split_at p x)
+split_known p x fit r e = by x.kind e
+  where
+    by : (k : Kind) → (if is_main k then split_in p.splits x.pc else None) ≡ Some r → (k ≡ Main) × (r < 32) × (p.head.version ≡ Three)
+    by Main e = let f = fit x.pc r e in (refl, f.0, f.1)
+    by Handler e = absurd (cc)
+    by Alone e = absurd (cc)
+
+whole_of : (split : Option ℕ) → ((r : ℕ) → split ≡ Some r → ⊥) → split ≡ None
+whole_of None h = refl
+whole_of (Some r) h = absurd (h r refl)
+
+split_fits : (version : RuleVersion) (kind : Kind) (split : Option ℕ) → SplitKnown version kind split → SplitFits split
+split_fits version kind None known = tt
+split_fits version kind (Some r) known = (known r refl).1
+
+pub known_fits : (version : RuleVersion) (kind : Kind) (p : Point) → SplitKnown version kind p.split → ComparedKnown version kind p.compared
     → IsOrderedCompared p.compared → RulesFit version kind p
-known_fits Two kind p whole known ordered = (known, whole)
-known_fits Three Main p whole known ordered = (compared_fits p.compared known ordered, subst SplitFits (sym whole) tt)
-known_fits Three Handler p whole known ordered = (known, whole)
-known_fits Three Alone p whole known ordered = (known, whole)
+known_fits Two kind p split known ordered = (known, whole_of p.split (λ r e. let three : Two ≡ Three = (split r e).2 in cc))
+known_fits Three Main p split known ordered = (compared_fits p.compared known ordered, split_fits Three Main p.split split)
+known_fits Three Handler p split known ordered = (known, whole_of p.split (λ r e. let main : Handler ≡ Main = (split r e).0 in cc))
+known_fits Three Alone p split known ordered = (known, whole_of p.split (λ r e. let main : Alone ≡ Main = (split r e).0 in cc))
 
 handler_fits : (version : RuleVersion) (p : Point) → p.compared ≡ Nothing → p.split ≡ None → RulesFit version Handler p
 handler_fits Two p nothing whole = (nothing, whole)
 handler_fits Three p nothing whole = (nothing, whole)
 
-pub own_fits : (p : Program) (count : ℕ) (x : Instance) (next : List ℕ) → Stands p x → IsWithinLimits p x
-    → x.clock < clock_limit → IsOrdered x → SuccessorsFit count next → PointFits p.head (lines_of p) count (point_of x next)
-own_fits p count x next stands limits early ordered names = record {
+pub own_fits : (p : Program) (count : ℕ) (x : Instance) (next : List ℕ) (split : Option ℕ) → SplitKnown p.head.version x.kind split
+    → Stands p x → IsWithinLimits p x
+    → x.clock < clock_limit → IsOrdered x → SuccessorsFit count next → PointFits p.head (lines_of p) count
+    (record (point_of x next) { split = split })
+own_fits p count x next split known stands limits early ordered names = record {
   kind = kind x.kind refl;
-  rules = known_fits p.head.version x.kind (point_of x next) refl limits.compared ordered.compared;
+  rules = known_fits p.head.version x.kind (record (point_of x next) { split = split }) known limits.compared ordered.compared;
   pc = limits.pc;
   box = record {
     line_order = omega arith;
@@ -221,11 +246,11 @@ own_fits p count x next stands limits early ordered names = record {
   next = record { few = names.few; there = names.there; rise = names.rise };
 }
   where
-    left_out : x.kind ≢ Handler → IsTimerLeftOut (point_of x next)
+    left_out : x.kind ≢ Handler → IsTimerLeftOut (record (point_of x next) { split = split })
     left_out other = record { top = (stands.timer other).0; temp = (stands.timer other).1 }
 
-    kind : (k : Kind) → x.kind ≡ k → PointKindFits x.kind (point_of x next)
-    kind Main is = subst (λ k. PointKindFits k (point_of x next)) (sym is) (
+    kind : (k : Kind) → x.kind ≡ k → PointKindFits x.kind (record (point_of x next) { split = split })
+    kind Main is = subst (λ k. PointKindFits k (record (point_of x next) { split = split })) (sym is) (
       record {
         first_line = (stands.main is).0;
         last_line = (stands.main is).0;
@@ -237,8 +262,8 @@ own_fits p count x next stands limits early ordered names = record {
       },
       left_out (λ h. main_handler (sym is ∙ h)),
     )
-    kind Handler is = subst (λ k. PointKindFits k (point_of x next)) (sym is) (record { top = stands.top; temp = ordered.temp })
-    kind Alone is = subst (λ k. PointKindFits k (point_of x next)) (sym is)
+    kind Handler is = subst (λ k. PointKindFits k (record (point_of x next) { split = split })) (sym is) (record { top = stands.top; temp = ordered.temp })
+    kind Alone is = subst (λ k. PointKindFits k (record (point_of x next) { split = split })) (sym is)
         (stands.pending (λ h. alone_handler (sym is ∙ h)), left_out (λ h. alone_handler (sym is ∙ h)))
 
     at : (k : ℕ) → k < 3 → slice_get x.pairs k ≡ Some (slice_index_or x.pairs k whole_pair)

@@ -1,5 +1,5 @@
 -- The certificate that an ended search makes.
-use Rattle.std.specs.Prelude.{◌≡◌, ◌<◌, ℕ, List, Some, length, slice_get}
+use Rattle.std.specs.Prelude.{◌≡◌, ◌<◌, ℕ, List, Some, length, map, slice_get}
 use Rattle.uz_schedule.specs.Instances.{entry_instance_at}
 use Rattle.uz_schedule.specs.Schedule.{response_clocks}
 use Rattle.uz_schedule.specs.WellFormed.{EntryFactsFit, EntryKindFits}
@@ -17,6 +17,7 @@ use Rattle.uz_paths.specs.Kinds.{IsScheduleOf}
 use Rattle.uz_paths.specs.Linked.{ArePoints, PointsLead}
 use Rattle.uz_paths.specs.Numbers.{AreNumbers}
 use Rattle.uz_paths.specs.Rests.{rests_of}
+use Rattle.uz_paths.specs.Splits.{with_split}
 
 -- Where runs enter
 
@@ -56,12 +57,12 @@ pub record ArePartsOf (image : Flash) (p : Program) (entry : Entry) (found : Fou
       (length parts.points.items) parts.points.items
   pub named : PointsLead image p parts.schedule parts.rests.items found.nodes.keys numbers parts.points.items
 
--- with the program's header
+-- with the program's header and splits
 abbrev pub cert_of : Program → Parts → Cert
 cert_of p parts = record {
   head = p.head;
   schedule = parts.schedule;
   rests = parts.rests.items;
   entry = parts.entry;
-  points = parts.points.items;
+  points = map (with_split p.splits) parts.points.items;
 }

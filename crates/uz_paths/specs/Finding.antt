@@ -18,6 +18,7 @@ use Rattle.uz_search.specs.Trails.{OnTrail}
 use Rattle.uz_search.specs.Refusing.{Refusal}
 use Rattle.uz_paths.specs.Faults.{HintRefusal}
 use Rattle.uz_paths.specs.ProgramOf.{IsProgramOf, start_entry}
+use Rattle.uz_paths.specs.Splits.{IsWhole, SplitsFit}
 
 -- the most distinct instances of a search
 abbrev pub instance_limit : ℕ
@@ -33,12 +34,13 @@ any_version version = ⊤
 abbrev pub only : RuleVersion → Versions
 only version other = other ≡ version
 
--- what is told of the program by the hints, and the refusal of a search over it by the rules of such a version
+-- what is told of the program by the hints, and the refusal of a search over it, without splits, by the rules of such a version
 pub record Licensed (versions : Versions) (image : FinMap nat_cmp ℕ) (irq : Response) (hints : List SourceHint) (e : NotFound)
     : Type 0 where
   pub program : Program
   pub of : IsProgramOf irq hints program
   pub rules : versions program.head.version
+  pub whole : IsWhole program
   pub shows : Refusal image program instance_limit e
 
 -- the cause of each answer without a certificate by the rules of such a version
@@ -83,8 +85,18 @@ pub record IsFoundBy (image : FinMap nat_cmp ℕ) (p : Program) (entry : Entry) 
   pub rests : (rest : Rest) → Contains cert.rests rest → IsReturn image p rest
 
 -- the certificate has the header, the lines, their lengths, the fall and the entry that the hints ask for, and each rest is a return of
--- some trail, by the rules that the header names
-pub record IsAsked (image : FinMap nat_cmp ℕ) (irq : Response) (hints : List SourceHint) (cert : Cert) : Type 0 where
+-- some trail, by the rules that the header names, with splits that are allowed
+pub record IsAskedWith (allowed : Program → Type 0) (image : FinMap nat_cmp ℕ) (irq : Response) (hints : List SourceHint) (cert : Cert)
+    : Type 0 where
   pub program : Program
   pub of : IsProgramOf irq hints program
+  pub splits : allowed program
   pub found : IsFoundBy image program (start_entry hints program.head of.start 0) cert
+
+-- with any that the rules know: where they are those of version 2 there is none
+abbrev pub IsAsked : FinMap nat_cmp ℕ → Response → List SourceHint → Cert → Type 0
+IsAsked image irq hints cert = IsAskedWith SplitsFit image irq hints cert
+
+-- with none
+abbrev pub IsAskedWhole : FinMap nat_cmp ℕ → Response → List SourceHint → Cert → Type 0
+IsAskedWhole image irq hints cert = IsAskedWith IsWhole image irq hints cert

@@ -10,6 +10,7 @@ pub mod Numbers
 pub mod Plan
 pub mod ProgramOf
 pub mod Rests
+pub mod Splits
 pub mod Successors
 pub mod Cells
 pub mod Faults

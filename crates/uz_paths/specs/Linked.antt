@@ -11,7 +11,8 @@ use Rattle.uz_schedule.specs.declared.states.Rest.{Rest}
 use Rattle.uz_rules.specs.declared.next.Next.{Next}
 use Rattle.uz_search.specs.declared.program.Program.{Program}
 use Rattle.uz_search.specs.Fitting.{ProgramFits, Stands}
-use Rattle.uz_search.specs.Following.{Among, After, Flash, lines_of, order_of_program}
+use Rattle.uz_search.specs.Following.{Among, After, Flash, lines_of, order_of_program, split_at}
+use Rattle.uz_search.specs.Pieces.{pieces}
 use Rattle.uz_search.specs.Widened.{widened}
 use Rattle.uz_paths.specs.Numbers.{AreNumbers}
 use Rattle.uz_join.specs.Points.{AreOrdered, IsOrdered, point_of, vector_after}
@@ -74,15 +75,20 @@ pub record AddsSuccessors (count most : ℕ) (old new : List ℕ) : Type 0 where
   pub few : length new ≤ length old + most
   pub fits : SuccessorsFit count old → SuccessorsFit count new
 
--- the instance's results, each widened by the facts of its program counter, have their numbers among these
+-- what the instance's results go on in
+abbrev pub pieces_at : Program → Instance → Next → List Instance
+pieces_at p x result = pieces (split_at p x) result.out.items
+
+-- the instance's results, or the pieces in which one goes on, each widened by the facts of its program counter, have their numbers among
+-- these
 abbrev pub LeadsToResults : Flash → Program → List Instance → List ℕ → Instance → List ℕ → Type 0
 LeadsToResults image p nodes numbers x next = (result : Next) (y : Instance) → After image p x (Ok result) → result.back ≡ false
-    → Among result.out.items y → HasSuccessor nodes numbers (widened p y) next
+    → Among (pieces_at p x result) y → HasSuccessor nodes numbers (widened p y) next
 
--- results of instances are instances, where they are widened
+-- what results of instances go on in are instances, where they are widened
 abbrev pub IsClosed : Flash → Program → List Instance → Type 0
 IsClosed image p nodes = (x y : Instance) (result : Next) → Among nodes x → After image p x (Ok result) → result.back ≡ false
-    → Among result.out.items y → Among nodes (widened p y)
+    → Among (pieces_at p x result) y → Among nodes (widened p y)
 
 -- a program that is fit to be searched, and instances that stand in its frame, with all their results
 pub record AreSearched (image : Flash) (p : Program) (nodes : List Instance) : Type 0 where
@@ -90,9 +96,9 @@ pub record AreSearched (image : Flash) (p : Program) (nodes : List Instance) : T
   pub stand : (x : Instance) → Among nodes x → Stands p x
   pub closed : IsClosed image p nodes
 
--- an instance has at most so many results
+-- an instance's results go on in at most so many instances
 abbrev pub HasFew : Flash → Program → Instance → ℕ → Type 0
-HasFew image p x most = (result : Next) → After image p x (Ok result) → length result.out.items ≤ most
+HasFew image p x most = (result : Next) → After image p x (Ok result) → length (pieces_at p x result) ≤ most
 
 -- the handler's first state after a rest, where its interrupt is taken at clock c of the next line, with the schedule's level there
 abbrev pub first_after : Program → Schedule → Rest → ℕ → Instance

@@ -4,10 +4,11 @@ use Rattle.uz_schedule.specs.declared.lines.Schedule.{Schedule}
 use Rattle.uz_schedule.specs.declared.states.Instance.{Instance}
 use Rattle.uz_schedule.specs.declared.states.Point.{Point}
 use Rattle.uz_schedule.specs.declared.states.Rest.{Rest}
+use Rattle.uz_rules.specs.declared.next.Next.{Next}
 use Rattle.uz_paths.specs.declared.linking.Linking.{Linking}
 use Rattle.uz_paths.specs.declared.lists.Lists.{Lists}
 use Rattle.uz_paths.specs.Linked.{AreEntered, AreSearched, HasFew, HasSuccessor, HaveNumbers, IsEntered, LeadsToEntries, LeadsToResults}
-use Rattle.uz_paths.specs.Linked.{VectorsLead}
+use Rattle.uz_paths.specs.Linked.{VectorsLead, pieces_at}
 use Rattle.uz_paths.specs.Plan.{AreLinks}
 
 -- the instances of a search with all their results, each of which has the number of a point
@@ -23,6 +24,9 @@ LeadsToResultsBy l = LeadsToResults l.image.now l.program.now l.nodes.now.keys l
 
 abbrev pub HasFewBy : Linking → Instance → ℕ → Type 0
 HasFewBy l = HasFew l.image.now l.program.now
+
+abbrev pub pieces_by : Linking → Instance → Next → List Instance
+pieces_by l = pieces_at l.program.now
 
 abbrev pub LeadsToEntriesBy : Linking → Schedule → Rest → List ℕ → Type 0
 LeadsToEntriesBy l s = LeadsToEntries l.image.now l.program.now s l.nodes.now.keys l.numbers.now

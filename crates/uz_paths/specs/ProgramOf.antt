@@ -96,7 +96,7 @@ pub record AreShortened (hint : Hint) (old new : List ℕ) : Type 0 where
   pub named : (line : ℕ) → line < length old → halves line hint ≡ true → slice_get new line ≡ Some 1
   pub others : (line : ℕ) → halves line hint ≡ false → slice_get new line ≡ slice_get old line
 
--- the program that hints tell of
+-- the program that hints tell of. Of splits they say nothing
 pub record IsProgramOf (irq : Response) (hints : List Hint) (p : Program) : Type 0 where
   pub start : Beginning
   pub starts_at : first_start hints ≡ Some start

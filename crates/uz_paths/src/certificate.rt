@@ -15,6 +15,7 @@ use crate::kinds::schedule_of;
 use crate::linking::{number_at, place_of, plan_of};
 use crate::making::points_of;
 use crate::rests::rests_of;
+use crate::splits::split_points;
 use arrayvec::ArrayVec;
 use indexmap::IndexSet;
 use std::alloc::{AllocError, Global};
@@ -209,24 +210,25 @@ pub(crate) fn take_head(program: &mut Program) -> Head
     replace(&mut program.head, bare)
 }
 
-/// The certificate of these parts.
+/// The certificate of these parts, in which each point is split as the program is.
 pub(crate) fn certificate_of(program: Program, parts: Parts) -> Cert
     ensures { result ≡ cert_of program parts }
 {
     let mut program = program;
-    let head = take_head(&mut program);
-    drop(program);
     let Parts {
         schedule,
         rests,
         entry,
         points,
     } = parts;
+    let points = split_points(&program.splits, points);
+    let head = take_head(&mut program);
+    drop(program);
     Cert {
         head,
         schedule,
         rests: Sequence::from_vec(rests),
         entry,
-        points: Sequence::from_vec(points),
+        points,
     }
 }

@@ -10,8 +10,9 @@ ghost use Rattle.uz_search.specs.Refusing.{Refusal};
 ghost use Rattle.uz_search.specs.Searching.{IsEnded};
 ghost use Rattle.uz_join.specs.Joined.{SameButPoints};
 ghost use Rattle.uz_paths.specs.Certificate.{IsEntry, ReturnsFromMain};
+ghost use Rattle.uz_paths.specs.Splits.{AreRegisters, SplitsFit};
 ghost use Rattle.uz_paths.specs.declared.finding.Joining.TheVariants.{LeftOut};
-ghost use Rattle.uz_paths.specs.Finding.{instance_limit, only, Cause, CauseBy, NoCause, IsBy, IsFoundBy, IsAsked};
+ghost use Rattle.uz_paths.specs.Finding.{instance_limit, only, Cause, CauseBy, NoCause, IsBy, IsFoundBy, IsAsked, IsAskedWhole};
 
 use crate::certificate::{certificate_of, parts_of};
 use crate::joined::joined_certificate;
@@ -24,9 +25,9 @@ use uz_join::joined;
 use uz_rules::{known_in_itself, place_holds, place_tells};
 use uz_schedule::{Cert, Entry, Response, RuleVersion, event_by_line};
 use uz_search::{
-    Found, NotFound, Program, ended_accepts, ended_falls_once, ended_levels, ended_levels_fit,
-    ended_rests_are_quiet, ended_rests_enter, ended_within_limits, lies_in_widened,
-    nodes_are_reached, search,
+    Found, NotFound, Program, Split, ended_accepts, ended_falls_once, ended_levels,
+    ended_levels_fit, ended_rests_are_quiet, ended_rests_enter, ended_within_limits,
+    lies_in_widened, nodes_are_reached, pieces_pass, search,
 };
 
 /// The most distinct instances of a search.
@@ -45,6 +46,7 @@ fn certificate(
     requires ended { IsEnded image.now program found }
     requires few { length found.nodes.keys < instance_limit }
     requires returns { ReturnsFromMain program found }
+    requires splits { SplitsFit program }
     ensures fits { IfOk result WellFormed }
     ensures accepted { IfOk result (Accepts image.now) }
     ensures found { IfOk result (IsFoundBy image.now program entry) }
@@ -62,6 +64,7 @@ fn certificate(
     place_holds();
     known_in_itself();
     ended_accepts();
+    pieces_pass();
     match parts_of(alloc, image, &program, entry, found) {
         Ok(parts) => Ok(certificate_of(program, parts)),
         Err(AllocError) => {
@@ -108,6 +111,7 @@ fn find_by(
 ) -> Result<Option<Cert>, NotFound>
     requires fits { ProgramFits program }
     requires start { IsEntry program entry }
+    requires splits { SplitsFit program }
     ensures accepted { IfOk result (λ o. IfSome o (λ cert. WellFormed cert × Accepts image.now cert)) }
     ensures found { IfOk result (λ o. IfSome o (IsFoundBy image.now program entry)) }
     ensures there { joining ≡ LeftOut → IfOk result IsSome }
@@ -149,7 +153,7 @@ fn find_as(
 ) -> Result<Option<Cert>, NotFound>
     requires { length hints.now < 2 ^ 32 }
     ensures accepted { IfOk result (λ o. IfSome o (λ cert. WellFormed cert × Accepts image.now cert)) }
-    ensures asked { IfOk result (λ o. IfSome o (IsAsked image.now irq hints.now)) }
+    ensures asked { IfOk result (λ o. IfSome o (IsAskedWhole image.now irq hints.now)) }
     ensures version { IfOk result (λ o. IfSome o (IsBy version)) }
     ensures there { joining ≡ LeftOut → IfOk result IsSome }
     ensures cause { IfErr result (CauseBy (only version) image.now irq hints.now) }
@@ -161,7 +165,7 @@ fn find_as(
         Ok(reading) => reading,
         Err(index) => return Err(NotFound::Hint { index }),
     };
-    let (program, entry) = program_of(alloc, hints, reading)?;
+    let (program, entry) = program_of(alloc, hints, reading, Vec::new(alloc))?;
     find_by(alloc, image, program, entry, joining)
 }
 
@@ -175,7 +179,7 @@ fn find_alone(
 ) -> Result<Cert, NotFound>
     requires { length hints.now < 2 ^ 32 }
     ensures accepted { IfOk result (λ cert. WellFormed cert × Accepts image.now cert) }
-    ensures asked { IfOk result (IsAsked image.now irq hints.now) }
+    ensures asked { IfOk result (IsAskedWhole image.now irq hints.now) }
     ensures version { IfOk result (IsBy version) }
     ensures cause { IfErr result (CauseBy (only version) image.now irq hints.now) }
     ensures complete { NoCause version image.now irq hints.now → IsOk result ⊎ (result ≡ Err NotFound.Memory) }
@@ -198,7 +202,7 @@ pub(crate) fn find_joined(
 ) -> Result<Cert, NotFound>
     requires { length hints.now < 2 ^ 32 }
     ensures accepted { IfOk result (λ cert. WellFormed cert × Accepts image.now cert) }
-    ensures asked { IfOk result (IsAsked image.now irq hints.now) }
+    ensures asked { IfOk result (IsAskedWhole image.now irq hints.now) }
     ensures version { IfOk result (IsBy version) }
     ensures cause { IfErr result (CauseBy (only version) image.now irq hints.now) }
     ensures complete { NoCause version image.now irq hints.now → IsOk result ⊎ (result ≡ Err NotFound.Memory) }
@@ -208,6 +212,78 @@ pub(crate) fn find_joined(
     match find_as(alloc, image, hints, irq, version, Joining::Tried) {
         Ok(Some(cert)) => Ok(cert),
         Ok(None) => find_alone(alloc, image, hints, irq, version),
+        Err(why) => Err(why),
+    }
+}
+
+/// Finds a certificate by the hints of a source and the rules of version 3, where main's results go on in pieces by the values of these
+/// registers. None where its points were let go while they were joined, and the joined certificate isn't accepted.
+fn find_split_as(
+    alloc: Global,
+    image: &Image,
+    hints: &[Hint],
+    irq: Response,
+    splits: &[Split],
+    joining: Joining,
+) -> Result<Option<Cert>, NotFound>
+    requires few { length hints.now < 2 ^ 32 }
+    requires registers { AreRegisters splits.now }
+    ensures accepted { IfOk result (λ o. IfSome o (λ cert. WellFormed cert × Accepts image.now cert)) }
+    ensures asked { IfOk result (λ o. IfSome o (IsAsked image.now irq hints.now)) }
+    ensures there { joining ≡ LeftOut → IfOk result IsSome }
+{
+    let reading = match read_hints(image, irq, RuleVersion::Three, hints) {
+        Ok(reading) => reading,
+        Err(index) => return Err(NotFound::Hint { index }),
+    };
+    let copy = match Vec::from_slice(alloc, splits) {
+        Ok(copy) => copy,
+        Err(AllocError) => {
+            drop(reading);
+            return Err(NotFound::Memory);
+        }
+    };
+    let (program, entry) = program_of(alloc, hints, reading, copy)?;
+    find_by(alloc, image, program, entry, joining)
+}
+
+/// Finds a certificate by the hints of a source and the rules of version 3, where main's results go on in pieces by the values of these
+/// registers. Its points aren't joined.
+fn find_split_alone(
+    alloc: Global,
+    image: &Image,
+    hints: &[Hint],
+    irq: Response,
+    splits: &[Split],
+) -> Result<Cert, NotFound>
+    requires few { length hints.now < 2 ^ 32 }
+    requires registers { AreRegisters splits.now }
+    ensures accepted { IfOk result (λ cert. WellFormed cert × Accepts image.now cert) }
+    ensures asked { IfOk result (IsAsked image.now irq hints.now) }
+{
+    match find_split_as(alloc, image, hints, irq, splits, Joining::LeftOut) {
+        Ok(cert) => Ok(cert.unwrap()),
+        Err(why) => Err(why),
+    }
+}
+
+/// Finds a certificate by the hints of a source and the rules of version 3, where main's results go on in pieces by the values of these
+/// registers. Its points are joined where the check accepts them so.
+pub(crate) fn find_split(
+    alloc: Global,
+    image: &Image,
+    hints: &[Hint],
+    irq: Response,
+    splits: &[Split],
+) -> Result<Cert, NotFound>
+    requires few { length hints.now < 2 ^ 32 }
+    requires registers { AreRegisters splits.now }
+    ensures accepted { IfOk result (λ cert. WellFormed cert × Accepts image.now cert) }
+    ensures asked { IfOk result (IsAsked image.now irq hints.now) }
+{
+    match find_split_as(alloc, image, hints, irq, splits, Joining::Tried) {
+        Ok(Some(cert)) => Ok(cert),
+        Ok(None) => find_split_alone(alloc, image, hints, irq, splits),
         Err(why) => Err(why),
     }
 }
@@ -225,6 +301,7 @@ pub fn find(alloc: Global, image: &Image, hints: &[Hint], irq: Response) -> Resu
     requires { length hints.now < 2 ^ 32 }
     ensures accepted { IfOk result (λ cert. WellFormed cert × Accepts image.now cert) }
     ensures asked { IfOk result (IsAsked image.now irq hints.now) }
+    ensures whole { IfOk result (IsAskedWhole image.now irq hints.now) }
     ensures version { IfOk result (IsBy Two) }
     ensures cause { IfErr result (Cause image.now irq hints.now) }
     ensures cause_by { IfErr result (CauseBy (only Two) image.now irq hints.now) }

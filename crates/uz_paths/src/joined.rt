@@ -8,7 +8,7 @@ ghost use Rattle.uz_check.specs.Acceptance.{Accepts};
 ghost use Rattle.uz_search.specs.Fitting.{ProgramFits};
 ghost use Rattle.uz_search.specs.Searching.{IsEnded};
 ghost use Rattle.uz_join.specs.Joined.{entry_unnumbered};
-ghost use Rattle.uz_join.specs.Telling.{SaysInstances};
+ghost use Rattle.uz_join.specs.Coverage.{SaysInstances};
 ghost use Rattle.uz_paths.specs.Finding.{IsFoundBy};
 ghost use Rattle.uz_paths.specs.JoinedParts.{AreJoinedOf, joined_cert};
 ghost use Rattle.uz_paths.specs.Rests.{rests_of as rests_of_returns};
@@ -16,6 +16,7 @@ ghost use Rattle.uz_paths.specs.Rests.{rests_of as rests_of_returns};
 use crate::certificate::{made_schedule, take_head, with_id};
 use crate::numbers::vectors_of;
 use crate::rests::rests_of;
+use crate::splits::split_points;
 use crate::vectors::vector_of;
 use std::alloc::{AllocError, Global};
 use std::mem::swap;
@@ -126,8 +127,8 @@ fn joined_points(
         vectors,
         found.nodes.as_slice(),
         numbers,
-        found.ways.starts(),
-        found.ways.places(),
+        found.successors.starts(),
+        found.successors.places(),
     )
 }
 
@@ -223,12 +224,13 @@ fn choose(image: &Image, program: Program, parts: JoinedParts) -> Result<Cert, P
         entry,
         points,
     } = parts;
+    let points = split_points(&program.splits, points);
     let mut cert = Cert {
         head: take_head(&mut program),
         schedule,
         rests,
         entry,
-        points: Sequence::from_vec(points),
+        points,
     };
     let accepted = passes(image, &cert);
     if accepted {

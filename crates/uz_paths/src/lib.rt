@@ -16,6 +16,7 @@ mod program;
 mod reading;
 mod rests;
 mod rules;
+mod splits;
 mod successors;
 mod vectors;
 mod words;

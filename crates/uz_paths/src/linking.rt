@@ -15,7 +15,7 @@ use std::alloc::{AllocError, Global};
 use uz_hex::Image;
 use uz_rules::{Next, put_after};
 use uz_schedule::{Instance, Point, Rest, Schedule, equal_instances_are_one};
-use uz_search::{Program, widened_copy};
+use uz_search::{Program, put_pieces, widened_copy};
 
 /// What is known of the points of instances before they are made.
 #[derive(Drop)]
@@ -82,7 +82,7 @@ impl Linking<'_> {
     ghost use Rattle.uz_search.specs.Widened.{widened};
     ghost use Rattle.uz_paths.specs.Linked.{SuccessorsFit, AddsSuccessors};
     ghost use Rattle.uz_paths.specs.Linking.{AreEnteredBy, AreLinksBy, HasFewBy, HasSuccessorBy, IsEnteredBy, IsLinking, LeadsToEntriesBy};
-    ghost use Rattle.uz_paths.specs.Linking.{LeadsToResultsBy, VectorsLeadBy};
+    ghost use Rattle.uz_paths.specs.Linking.{LeadsToResultsBy, VectorsLeadBy, pieces_by};
     ghost use Rattle.uz_paths.specs.Plan.{AreMade};
 
     /// Puts the number of an instance's point among others.
@@ -110,19 +110,21 @@ impl Linking<'_> {
         }
     }
 
-    /// Puts the numbers of the points of what an instruction makes of an instance among others. A return has none.
-    fn put_next(&self, next: &Next, successors: &mut ArrayVec<u32, 16>)
+    /// Puts the numbers of the points of what an instruction makes of an instance among others, piece by piece where a register is split
+    /// there. A return has none.
+    fn put_next(&self, at: &Instance, next: &mut Next, successors: &mut ArrayVec<u32, 16>)
         requires linking { IsLinking self.now }
-        requires nodes { next.now.back ≡ false → (y : Instance) → Among next.now.out.items y
+        requires nodes { next.old.back ≡ false → (y : Instance) → Among (pieces_by self.now at.now next.old) y
             → Among self.now.nodes.now.keys (widened self.now.program.now y) }
-        requires room { length successors.old.items + length next.now.out.items ≤ 16 }
-        ensures more { AddsSuccessors self.now.count (length next.now.out.items) successors.old.items successors.new.items }
-        ensures named { next.now.back ≡ false → (y : Instance) → Among next.now.out.items y
+        requires room { length successors.old.items + length (pieces_by self.now at.now next.old) ≤ 16 }
+        ensures more { AddsSuccessors self.now.count (length (pieces_by self.now at.now next.old)) successors.old.items successors.new.items }
+        ensures named { next.old.back ≡ false → (y : Instance) → Among (pieces_by self.now at.now next.old) y
             → HasSuccessorBy self.now (widened self.now.program.now y) successors.new.items }
     {
         if next.back {
             return;
         }
+        put_pieces(self.program, at, next);
         self.put_all(next.out.as_slice(), successors);
     }
 
@@ -146,7 +148,7 @@ impl Linking<'_> {
         let _ = most; // said of in the contract alone
         let program = self.program;
         match put_after(self.image, &program.head, &program.schedule, at, next) {
-            Ok(()) => self.put_next(next, successors),
+            Ok(()) => self.put_next(at, next, successors),
             Err(_) => {}
         }
     }

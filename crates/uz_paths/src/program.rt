@@ -27,7 +27,7 @@ use uz_schedule::{
     Bit, Cell, Entry, HALF_LINE, Head, Instance, Kind, LineEvents, Response, SCANLINE, Schedule,
     Sequence, Span, Wide, entry_state, handler_entry, tracks,
 };
-use uz_search::{Facts, Program, Widening, last_clock};
+use uz_search::{Facts, Program, Split, Widening, last_clock};
 
 /// What a fact says of its place.
 fn widening_of(place: u8, lo: u16, hi: u16) -> Widening
@@ -240,11 +240,12 @@ fn frame_of(alloc: Global, hints: &[Hint], lines: u16, fall: u16) -> Result<Sche
     })
 }
 
-/// The program that hints tell of, with the entry of its certificate.
+/// The program that hints tell of, in which these registers are split, with the entry of its certificate.
 pub(crate) fn program_of(
     alloc: Global,
     hints: &[Hint],
     reading: Reading,
+    splits: Vec<Split>,
 ) -> Result<(Program, Entry), AllocError>
     requires facts { FactsFine hints.now }
     requires fits { ReadingFits reading }
@@ -255,6 +256,7 @@ pub(crate) fn program_of(
     ensures head { IfOk result (λ r. r.0.head ≡ reading.head) }
     ensures entry { IfOk result (λ r. r.1 ≡ entry_with reading.registers reading.head reading.start 0) }
     ensures start { IfOk result (λ r. IsEntry r.0 r.1) }
+    ensures splits { IfOk result (λ r. r.0.splits ≡ splits.items) }
 {
     let Reading {
         head,
@@ -267,6 +269,7 @@ pub(crate) fn program_of(
         Ok(facts) => facts,
         Err(AllocError) => {
             drop(head);
+            drop(splits);
             return Err(AllocError);
         }
     };
@@ -277,6 +280,7 @@ pub(crate) fn program_of(
             drop(entry);
             drop(facts);
             drop(head);
+            drop(splits);
             return Err(AllocError);
         }
     };
@@ -288,6 +292,7 @@ pub(crate) fn program_of(
             drop(entry);
             drop(facts);
             drop(head);
+            drop(splits);
             return Err(AllocError);
         }
     };
@@ -297,6 +302,7 @@ pub(crate) fn program_of(
             schedule,
             facts,
             starts: Sequence::from_vec(starts),
+            splits: Sequence::from_vec(splits),
         },
         entry,
     ))

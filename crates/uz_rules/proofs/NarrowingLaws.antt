@@ -1,5 +1,5 @@
 -- A core at an exit meets the instance that is narrowed there.
-use Rattle.std.proofs.Common.{◌≡◌, ℕ, zero, suc, ◌+◌, ◌/◌, ◌<◌, Bool, true, false, Option, Some, None}
+use Rattle.std.proofs.Common.{◌≡◌, ℕ, zero, suc, ◌+◌, ◌/◌, ◌%◌, ◌<◌, Bool, true, false, Option, Some, None}
 use Rattle.std.proofs.Common.{refl, sym, ap, ◌∙◌, subst, inl, inr, arith}
 use Rattle.std.specs.Prelude.{slice_set, unwrap_or, ⊤}
 use Rattle.std.proofs.lemmas.Bool.Decides.{eqb_tells}
@@ -15,14 +15,14 @@ use Rattle.uz_schedule.specs.declared.states.Instance.{Instance}
 use Rattle.uz_range.specs.Answers.{ends}
 use Rattle.uz_range.specs.Containment.{IsWithin}
 use Rattle.uz_range.specs.Flags.{flag_after, byte_flag, pair_flag, low_difference}
-use Rattle.uz_range.specs.Narrowing.{KeepsBoth, Keeps, result_narrowed}
-use Rattle.uz_range.specs.Rules.{high_answer}
+use Rattle.uz_range.specs.Narrowing.{KeepsBoth, Keeps, both, common, result_narrowed}
+use Rattle.uz_range.specs.Rules.{high_answer, low_answer}
 use Rattle.uz_range.proofs.FlagsOfBytes.{difference_keeps}
 use Rattle.uz_range.proofs.FlagsOfPairs.{pair_difference_keeps}
 use Rattle.uz_range.proofs.Narrows.{common_keeps}
-use Rattle.uz_range.proofs.PairsCover.{high_covers}
+use Rattle.uz_range.proofs.PairsCover.{high_covers, low_covers}
 use Rattle.uz_range.proofs.ResultsKeep.{value_keeps, byte_result_keeps, pair_result_keeps}
-use Rattle.uz_transfer.specs.Narrowed.{against_span, left_of, with_both, with_first_pair, with_left, with_one, with_one_pair}
+use Rattle.uz_transfer.specs.Narrowed.{against_span, byte_span, left_of, with_both, with_first_pair, with_left, with_one, with_one_pair}
 use Rattle.uz_transfer.specs.Narrowed.{with_pair, with_span}
 use Rattle.uz_transfer.specs.declared.narrowing.Left.{Left}
 use Rattle.uz_transfer.specs.Values.{span_of, value_at, pair_range}
@@ -46,12 +46,16 @@ span_meets inst left o s d e c h meets = record {
   flags = meets.flags;
 }
 
+both_left_meet : (d : ℕ) (source : Against) (inst : Instance) (left : Left) (o s : Core) (p : Option (Ends × Ends)) → IsCore s
+    → CoreMeets (with_left left inst) o s → KeepsBoth (register s d) (against_value source s) p → LeftMeets (with_both d source left p) inst o s
+both_left_meet d source inst left o s None c meets h = absurd h
+both_left_meet d (Register r) inst left o s (Some p) c meets h =
+    span_meets inst (with_span r p.1 left) o s d p.0 c h.0 (span_meets inst left o s r p.1 c h.1 meets)
+both_left_meet d (Constant k) inst left o s (Some p) c meets h = span_meets inst left o s d p.0 c h.0 meets
+
 pub both_meet : (d : ℕ) (source : Against) (inst : Instance) (o s : Core) (p : Option (Ends × Ends)) → IsCore s → CoreMeets inst o s
     → KeepsBoth (register s d) (against_value source s) p → LeftMeets (with_both d source (left_of inst) p) inst o s
-both_meet d source inst o s None c meets h = absurd h
-both_meet d (Register r) inst o s (Some p) c meets h =
-    span_meets inst (with_span r p.1 (left_of inst)) o s d p.0 c h.0 (span_meets inst (left_of inst) o s r p.1 c h.1 meets)
-both_meet d (Constant k) inst o s (Some p) c meets h = span_meets inst (left_of inst) o s d p.0 c h.0 meets
+both_meet d source inst o s p c meets h = both_left_meet d source inst (left_of inst) o s p c meets h
 
 -- `left` is what is known already
 pub one_meets : (d : ℕ) (inst : Instance) (left : Left) (o s : Core) (p : Option Ends) → IsCore s → CoreMeets (with_left left inst) o s
@@ -103,15 +107,29 @@ pair_flag_is x y sreg k b h are e = told_by (pair_flag x y k) (pair_flag_some x 
     told_by None t is = absurd t
     told_by (Some c) t is = ap (λ t. Some t) (sym (are k c h is) ∙ e)
 
+bytes_keep : (p q : Option Ends) (x y : ℕ) → Keeps x p → Keeps y q → KeepsBoth x y (both p q)
+bytes_keep None q x y f g = absurd f
+bytes_keep (Some a) None x y f g = absurd g
+bytes_keep (Some a) (Some b) x y f g = (f, g)
+
+narrowed_byte : (inst : Instance) (o s : Core) (r : ℕ) (e : Ends) → IsCore s → r < 32 → IsWithin (register s r) e → CoreMeets inst o s
+    → Keeps (register s r) (common e (byte_span (left_of inst) r))
+narrowed_byte inst o s r e c hr within meets =
+    common_keeps e _ (register s r) within
+    (in_span (value_at inst.regs r) o (register s r) (register_byte s r c) (meets.regs r hr))
+
 one_pair_meets : (d : ℕ) (inst : Instance) (o s : Core) (p : Option Ends) → IsCore s → d < 31 → CoreMeets inst o s → Keeps (pair s d) p
     → LeftMeets (with_one_pair d (left_of inst) p) inst o s
 one_pair_meets d inst o s None c hd meets h = absurd h
 one_pair_meets d inst o s (Some e) c hd meets h =
     let b : register s d < 256 = register_byte s d c in
-    let half : (pair s d) / 256 ≡ register s (d + 1) = omega arith in
-    one_meets (d + 1) inst (with_pair d e (left_of inst)) o s _ c (range_meets inst o s d e c hd h meets)
-    (common_keeps (high_answer e) _ (register s (d + 1)) (subst (λ n. IsWithin n (high_answer e)) half (high_covers e (pair s d) h))
-    (in_span (value_at inst.regs (d + 1)) o (register s (d + 1)) (register_byte s (d + 1) c) (meets.regs (d + 1) (omega arith))))
+    let low : (pair s d) % 256 ≡ register s d = omega arith in
+    let high : (pair s d) / 256 ≡ register s (d + 1) = omega arith in
+    both_left_meet d (Register (d + 1)) inst (with_pair d e (left_of inst)) o s _ c (range_meets inst o s d e c hd h meets)
+    (bytes_keep _ _ (register s d) (register s (d + 1))
+    (narrowed_byte inst o s d (low_answer e) c (omega arith) (subst (λ n. IsWithin n (low_answer e)) low (low_covers e (pair s d) h)) meets)
+    (narrowed_byte inst o s (d + 1) (high_answer e) c (omega arith)
+    (subst (λ n. IsWithin n (high_answer e)) high (high_covers e (pair s d) h)) meets))
 
 first_pair_meets : (d : ℕ) (inst : Instance) (o s : Core) (y : ℕ) (p : Option (Ends × Ends)) → IsCore s → d < 31 → CoreMeets inst o s
     → KeepsBoth (pair s d) y p → LeftMeets (with_first_pair d (left_of inst) p) inst o s

@@ -10,7 +10,7 @@ use Rattle.uz_schedule.specs.declared.certificate.Cert.{Cert}
 use Rattle.uz_schedule.specs.Schedule.{start_of, level_at}
 use Rattle.uz_schedule.specs.Instances.{is_in_box, clock_at, instance_of, instance_at_clock, instance_in, instance_at}
 use Rattle.uz_schedule.specs.WellFormed.{WellFormed}
-use Rattle.uz_rules.specs.Moving.{place_at_clock, place_in, IsGrowing, IsOfPoint}
+use Rattle.uz_rules.specs.Moving.{place_at_clock, place_in, IsVarying, IsOfPoint}
 use Rattle.uz_rules.specs.Limits.{InstanceLimits}
 use Rattle.uz_rules.proofs.LimitsHold.{instance_limits}
 use Rattle.uz_rules.specs.declared.visit.Visit.{Visit}
@@ -90,12 +90,12 @@ of_point cert id l c p found = ap (option_and_then (λ q. instance_in cert.sched
 
 -- the first instance is made
 pub first_there : (cert : Cert) (id l c : ℕ) (p : Point) (visit : Visit) → slice_get cert.points id ≡ Some p
-    → instance_at cert id l c ≡ Some visit.at → (visit.kept ≡ true → IsGrowing p visit.growing) → IsAt cert id l c p true visit
-first_there cert id l c p visit found e growing = record {
+    → instance_at cert id l c ≡ Some visit.at → (visit.kept ≡ true → IsVarying p visit.varying) → IsAt cert id l c p true visit
+first_there cert id l c p visit found e varying = record {
   is = e;
   keeps = record {
     instance = λ k. said_in cert.schedule p l c visit.at (sym (of_point cert id l c p found) ∙ e);
-    growing = growing;
+    varying = varying;
   };
 }
 
@@ -104,7 +104,7 @@ pub first_none : (cert : Cert) (id l c : ℕ) (p : Point) (visit : Visit) → vi
     → IsAt cert id l c p false visit
 first_none cert id l c p visit bare e = record {
   is = e;
-  keeps = record { instance = λ k. absurd (never k); growing = λ k. absurd (never k) };
+  keeps = record { instance = λ k. absurd (never k); varying = λ k. absurd (never k) };
 }
   where
     never : visit.kept ≡ true → ⊥
@@ -112,13 +112,13 @@ first_none cert id l c p visit bare e = record {
 
 -- the last one is moved
 pub moved_there : (cert : Cert) (id l c clock level : ℕ) (p : Point) (visit : Visit) → slice_get cert.points id ≡ Some p
-    → place_in cert.schedule p l c ≡ Some (clock, level) → visit.at ≡ instance_of p l c clock level → IsGrowing p visit.growing
+    → place_in cert.schedule p l c ≡ Some (clock, level) → visit.at ≡ instance_of p l c clock level → IsVarying p visit.varying
     → IsAt cert id l c p true visit
-moved_there cert id l c clock level p visit found e at growing = record {
+moved_there cert id l c clock level p visit found e at varying = record {
   is = of_point cert id l c p found ∙ (placed cert.schedule p l c clock level e ∙ ap (λ i. Some i) (sym at));
   keeps = record {
     instance = λ k. record { line = l; count = c; clock = clock; level = level; is = at };
-    growing = λ k. growing;
+    varying = λ k. varying;
   };
 }
 
@@ -170,7 +170,7 @@ begins image cert id p visit found reads bare = record {
   point = p;
   is_point = found;
   reads = reads;
-  keeps = record { instance = λ k. absurd (never k); growing = λ k. absurd (never k) };
+  keeps = record { instance = λ k. absurd (never k); varying = λ k. absurd (never k) };
 }
   where
     never : visit.kept ≡ true → ⊥

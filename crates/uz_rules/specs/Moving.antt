@@ -12,7 +12,7 @@ use Rattle.uz_schedule.specs.declared.states.Point.{Point}
 use Rattle.uz_schedule.specs.declared.lines.Schedule.{Schedule}
 use Rattle.uz_schedule.specs.Schedule.{start_of, level_at}
 use Rattle.uz_schedule.specs.Instances.{val_of, cell_span, pair_of, instance_of, is_in_box, clock_at}
-use Rattle.uz_rules.specs.declared.growing.Growing.{Growing}
+use Rattle.uz_rules.specs.declared.varying.Varying.{Varying}
 
 -- Which facts say the same at each line and count
 
@@ -39,19 +39,19 @@ is_steady_pair regs r (LinePair a b) = false
 is_steady_pair regs r (LoopPair a b) = false
 
 -- the places of those that don't, of facts whose first stands at place k
-unfoldable pub growing_from : ℕ → List Fact → List ℕ
-growing_from k [] = []
-growing_from k (f ∷ facts) = if is_steady f then growing_from (suc k) facts else k ∷ growing_from (suc k) facts
+unfoldable pub varying_from : ℕ → List Fact → List ℕ
+varying_from k [] = []
+varying_from k (f ∷ facts) = if is_steady f then varying_from (suc k) facts else k ∷ varying_from (suc k) facts
 
 -- the places of a point's facts that don't
-pub record IsGrowing (p : Point) (growing : Growing) : Type 0 where
+pub record IsVarying (p : Point) (varying : Varying) : Type 0 where
   pub register_count : length p.regs ≡ 32
-  pub registers : growing.registers.items ≡ growing_from 0 p.regs
-  pub stack : growing.stack.items ≡ growing_from 0 p.stack.items
-  pub cells : growing.cells.items ≡ growing_from 0 p.cells.items
-  pub x : growing.x ≡ is_steady_pair p.regs 26 (pair_fact_at p.pairs 0)
-  pub y : growing.y ≡ is_steady_pair p.regs 28 (pair_fact_at p.pairs 1)
-  pub z : growing.z ≡ is_steady_pair p.regs 30 (pair_fact_at p.pairs 2)
+  pub registers : varying.registers.items ≡ varying_from 0 p.regs
+  pub stack : varying.stack.items ≡ varying_from 0 p.stack.items
+  pub cells : varying.cells.items ≡ varying_from 0 p.cells.items
+  pub x : varying.x ≡ is_steady_pair p.regs 26 (pair_fact_at p.pairs 0)
+  pub y : varying.y ≡ is_steady_pair p.regs 28 (pair_fact_at p.pairs 1)
+  pub z : varying.z ≡ is_steady_pair p.regs 30 (pair_fact_at p.pairs 2)
 
 -- Moving
 
@@ -78,15 +78,15 @@ abbrev pub with_pair : Point → ℕ → ℕ → Bool → ℕ → ℕ → Instan
 with_pair p l c steady k r inst =
     record inst { pairs = put_pair steady k (pair_of l c inst.regs r (pair_fact_at p.pairs k)) inst.pairs }
 
-abbrev pub with_pairs : Point → ℕ → ℕ → Growing → Instance → Instance
-with_pairs p l c growing inst =
-    with_pair p l c growing.z 2 30 (with_pair p l c growing.y 1 28 (with_pair p l c growing.x 0 26 inst))
+abbrev pub with_pairs : Point → ℕ → ℕ → Varying → Instance → Instance
+with_pairs p l c varying inst =
+    with_pair p l c varying.z 2 30 (with_pair p l c varying.y 1 28 (with_pair p l c varying.x 0 26 inst))
 
 -- an instance of the point at line l and count c, made of one at any line and count
-abbrev pub moved : Point → Growing → ℕ → ℕ → ℕ → ℕ → Instance → Instance
-moved p growing l c clock level inst =
-    with_pairs p l c growing (with_cells p l c growing.cells.items (with_stack p l c growing.stack.items
-    (with_registers p l c growing.registers.items (record inst { line = l; clock = clock; level = level }))))
+abbrev pub moved : Point → Varying → ℕ → ℕ → ℕ → ℕ → Instance → Instance
+moved p varying l c clock level inst =
+    with_pairs p l c varying (with_cells p l c varying.cells.items (with_stack p l c varying.stack.items
+    (with_registers p l c varying.registers.items (record inst { line = l; clock = clock; level = level }))))
 
 -- the clock of a point at line l and count c of its box, and the schedule's level there
 abbrev pub place_at_clock : Schedule → ℕ → ℕ → Option (ℕ × ℕ)

@@ -5,14 +5,14 @@ use Rattle.std.specs.FinMap.{FinMap}
 use Rattle.uz_schedule.specs.declared.states.Point.{Point}
 use Rattle.uz_schedule.specs.declared.certificate.Cert.{Cert}
 use Rattle.uz_schedule.specs.Instances.{instance_at}
-use Rattle.uz_rules.specs.Moving.{IsGrowing, IsOfPoint}
+use Rattle.uz_rules.specs.Moving.{IsVarying, IsOfPoint}
 use Rattle.uz_transfer.specs.Step.{IsReadAt}
 use Rattle.uz_rules.specs.declared.visit.Visit.{Visit}
 
 -- where an instance is kept, it is one that the point says, and the places of the facts that depend on the line or the count are noted
 pub record Keeps (p : Point) (visit : Visit) : Type 0 where
   pub instance : visit.kept ≡ true → IsOfPoint p visit.at
-  pub growing : visit.kept ≡ true → IsGrowing p visit.growing
+  pub varying : visit.kept ≡ true → IsVarying p visit.varying
 
 -- the instruction at the point's pc is read
 pub record IsVisit (image : FinMap nat_cmp ℕ) (cert : Cert) (id : ℕ) (visit : Visit) : Type 0 where

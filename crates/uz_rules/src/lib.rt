@@ -7,7 +7,6 @@ mod edge_rule;
 mod events;
 mod fact_inclusion;
 mod facts;
-mod growing;
 mod inclusion;
 mod laws;
 mod local_rule;
@@ -18,10 +17,10 @@ mod periods;
 mod place;
 mod results;
 mod successors;
+mod varying;
 mod visit;
 
 pub use events::event_of;
-pub use growing::Growing;
 pub use inclusion::{inside, restored};
 pub use laws::{
     alone_contained, cover_meets, handler_contained, inside_keeps, known_in_itself,
@@ -32,4 +31,5 @@ pub use local_rule::local;
 pub use next::Next;
 pub use results::{after, put_after};
 pub use successors::lies_in_point;
+pub use varying::Varying;
 pub use visit::Visit;

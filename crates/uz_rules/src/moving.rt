@@ -2,10 +2,10 @@
 
 ghost use Rattle.std.specs.Prelude.{◌≡◌, ◌<◌, All, [], ◌∷◌, length};
 ghost use Rattle.uz_rules.specs.Moving.{with_registers, with_stack, with_cells, with_pair, with_pairs, moved};
-ghost use Rattle.uz_rules.specs.Moving.{IsGrowing, IsOfPoint};
+ghost use Rattle.uz_rules.specs.Moving.{IsVarying, IsOfPoint};
 ghost use Rattle.uz_schedule.specs.Instances.{hull_at, instance_of};
 
-use crate::growing::Growing;
+use crate::varying::Varying;
 use uz_schedule::{Instance, Point, Val, Wide, hull_of_bytes, pair_by, span_of, val_of};
 
 /// A register is known by its fact at this line and count.
@@ -103,51 +103,51 @@ fn put_pair(
 }
 
 /// X, Y and Z are.
-fn put_pairs(at: &mut Instance, point: &Point, growing: &Growing, line: u16, count: u8)
-    ensures { at.new ≡ with_pairs point.now line count growing.now at.old }
+fn put_pairs(at: &mut Instance, point: &Point, varying: &Varying, line: u16, count: u8)
+    ensures { at.new ≡ with_pairs point.now line count varying.now at.old }
 {
-    put_pair(at, point, growing.x, 0, 26, line, count);
-    put_pair(at, point, growing.y, 1, 28, line, count);
-    put_pair(at, point, growing.z, 2, 30, line, count);
+    put_pair(at, point, varying.x, 0, 26, line, count);
+    put_pair(at, point, varying.y, 1, 28, line, count);
+    put_pair(at, point, varying.z, 2, 30, line, count);
 }
 
 /// All that depends on the line and the count is put, and the clock and level.
 #[tactic(auto, using(crate::proofs::MovingLaws::put_anew))]
-fn put_growing(
+fn put_varying(
     at: &mut Instance,
     point: &Point,
-    growing: &Growing,
+    varying: &Varying,
     line: u16,
     count: u8,
     clock: u16,
     level: u8,
 )
-    requires growing { IsGrowing point.now growing.now }
+    requires varying { IsVarying point.now varying.now }
     requires kept { IsOfPoint point.now at.old }
-    ensures { at.new ≡ moved point.now growing.now line count clock level at.old }
+    ensures { at.new ≡ moved point.now varying.now line count clock level at.old }
 {
     at.line = line;
     at.clock = clock;
     at.level = level;
-    put_registers(at, point, growing.registers.as_slice(), line, count);
-    put_slots(at, point, growing.stack.as_slice(), line, count);
-    put_cells(at, point, growing.cells.as_slice(), line, count);
-    put_pairs(at, point, growing, line, count);
+    put_registers(at, point, varying.registers.as_slice(), line, count);
+    put_slots(at, point, varying.stack.as_slice(), line, count);
+    put_cells(at, point, varying.cells.as_slice(), line, count);
+    put_pairs(at, point, varying, line, count);
 }
 
 /// An instance of a point becomes that at another line, count and clock, with this level.
 pub fn move_to(
     at: &mut Instance,
     point: &Point,
-    growing: &Growing,
+    varying: &Varying,
     line: u16,
     count: u8,
     clock: u16,
     level: u8,
 )
-    requires growing { IsGrowing point.now growing.now }
+    requires varying { IsVarying point.now varying.now }
     requires kept { IsOfPoint point.now at.old }
     ensures { at.new ≡ instance_of point.now line count clock level }
 {
-    put_growing(at, point, growing, line, count, clock, level);
+    put_varying(at, point, varying, line, count, clock, level);
 }

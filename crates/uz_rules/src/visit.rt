@@ -7,10 +7,10 @@ ghost use Rattle.uz_schedule.specs.WellFormed.{WellFormed};
 ghost use Rattle.uz_rules.specs.Local.{local_fail, IsLocal, reason, counted};
 ghost use Rattle.uz_rules.specs.Visit.{Keeps, IsVisit, IsAt};
 
-use crate::growing::{Growing, growing_of};
 use crate::local_rule::{answer, count, instance_fail, is_stop, point_of, read_at};
 use crate::moving::move_to;
 use crate::place::place_of;
+use crate::varying::{Varying, varying_of};
 use avr_table::Instr;
 use uz_core::effect;
 use uz_hex::Image;
@@ -27,7 +27,7 @@ pub struct Visit {
     /// The last instance.
     pub at: Instance,
     /// Which facts of the point depend on the line or the count.
-    pub growing: Growing,
+    pub varying: Varying,
     /// Room for the step of an instance.
     pub step: Step,
 }
@@ -50,7 +50,7 @@ fn make_first(visit: &mut Visit, cert: &Cert, id: u32, point: &Point, l: u16, c:
         Some(at) => {
             visit.at = at;
             if has_more(point) {
-                visit.growing = growing_of(point);
+                visit.varying = varying_of(point);
                 visit.kept = true;
             }
             true
@@ -71,7 +71,7 @@ fn move_kept(visit: &mut Visit, cert: &Cert, id: u32, point: &Point, l: u16, c: 
 {
     match place_of(&cert.schedule, point, l, c) {
         Some((clock, level)) => {
-            move_to(&mut visit.at, point, &visit.growing, l, c, clock, level);
+            move_to(&mut visit.at, point, &visit.varying, l, c, clock, level);
             true
         }
         None => false,
@@ -131,7 +131,7 @@ impl Visit {
             row: None,
             kept: false,
             at: Instance::default(),
-            growing: Growing::none(),
+            varying: Varying::none(),
             step: Step::empty(),
         }
     }

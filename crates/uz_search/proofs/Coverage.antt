@@ -14,18 +14,20 @@ use Rattle.uz_search.specs.declared.marks.Mark.{Mark}
 use Rattle.uz_search.specs.declared.program.Program.{Program}
 use Rattle.uz_search.specs.declared.returns.Return.{Return}
 use Rattle.uz_search.specs.Fitting.{ProgramFits, Stands}
-use Rattle.uz_search.specs.Following.{Among, Flash, Follows, entries, followers_of, lines_of, line_start, line_on, clock_on, place_on}
+use Rattle.uz_search.specs.Pieces.{pieces}
+use Rattle.uz_search.specs.Following.{split_at, Among, Flash, Follows, entries, followers_of, lines_of, line_start, line_on, clock_on, place_on}
 use Rattle.uz_search.specs.Following.{most_clocks, clocks_between, shown_at}
 use Rattle.uz_search.specs.Marking.{Seen}
 use Rattle.uz_search.specs.Returning.{ReturnAt}
 use Rattle.uz_search.specs.Searching.{IsSearch, Treated}
 use Rattle.uz_search.specs.Widened.{widened}
 use Rattle.uz_search.proofs.FramePlaces.{IsNext, Reaches, at, length_few, length_some, one_line, one_clock, one_next, reach_line, reach_on}
-use Rattle.uz_search.proofs.Lists.{kind_cases, bool_cases, in_map, of_map, in_first, of_flat}
+use Rattle.uz_search.proofs.Lists.{kind_cases, bool_cases, in_map, in_first, of_flat}
 use Rattle.uz_search.proofs.MarkingLemmas.{seen_once}
 use Rattle.uz_search.proofs.OneResult.{steps}
 use Rattle.uz_search.proofs.OneResult as result
-use Rattle.uz_search.proofs.Results.{Moves, back_is_handler, same_kind, main_line, passes}
+use Rattle.uz_search.proofs.PiecesLaws.{from_result, never_split, result_place}
+use Rattle.uz_search.proofs.Results.{Moves, apart_main, back_is_handler, same_kind, main_line, passes}
 use Rattle.uz_search.proofs.SearchingLemmas.{tree_all}
 use Rattle.uz_search.proofs.Standing.{stands_all}
 use Rattle.uz_search.proofs.VisitingLemmas.{some_is}
@@ -64,9 +66,9 @@ module _ (image : Flash) (program : Program) (fits : ProgramFits program) (nodes
 
   -- what follows an instance is among what its treatment found
   pub following : (x : Instance) (node : Among nodes x) (y : Instance) → Follows image program x y
-      → Among (followers_of program (treated x node).next) y
+      → Among (followers_of program x (treated x node).next) y
   following x node y follows = let t = treated x node in
-      subst (λ (n : Next). Among (followers_of program n) y) (result.one_next image program x follows.next t.next follows.after t.after)
+      subst (λ (n : Next). Among (followers_of program x n) y) (result.one_next image program x follows.next t.next follows.after t.after)
       follows.is
 
   -- main's results are main's, with its level
@@ -146,20 +148,23 @@ module _ (image : Flash) (program : Program) (fits : ProgramFits program) (nodes
       }
 
   -- a result of an instance that does not return is there, widened
-  pub result_there : (x : Instance) (node : Among nodes x) (y : Instance) → (treated x node).next.back ≡ false
+  pub result_there : (x : Instance) (node : Among nodes x) → x.kind ≢ Main → (y : Instance) → (treated x node).next.back ≡ false
       → Among (treated x node).next.out.items y → Among nodes (widened program y)
-  result_there x node y back out =
+  result_there x node apart y back out =
       let t = treated x node in
-      let here : followers_of program t.next ≡ map (widened program) t.next.out.items =
-      ap (λ b. if b then flat_map (entries program) t.next.out.items else map (widened program) t.next.out.items) back in
+      let here : followers_of program x t.next ≡ map (widened program) t.next.out.items =
+      ap (λ b. if b then flat_map (entries program) t.next.out.items else map (widened program) (pieces (split_at program x)
+      t.next.out.items)) back
+      ∙ ap (λ o. map (widened program) (pieces o t.next.out.items)) (never_split program x (apart_main x.kind apart)) in
       t.follow (widened program y) (out.0, ap (λ l. slice_get l out.0) here ∙ in_map (widened program) t.next.out.items out.0 y out.1)
 
   pub entry_there : (x : Instance) (node : Among nodes x) (end e : Instance) → (treated x node).next.back ≡ true
       → slice_get (treated x node).next.out.items 0 ≡ Some end → Among (entries program end) e → Among nodes e
   entry_there x node end e back out entry =
       let t = treated x node in
-      let here : followers_of program t.next ≡ flat_map (entries program) t.next.out.items =
-      ap (λ b. if b then flat_map (entries program) t.next.out.items else map (widened program) t.next.out.items) back in
+      let here : followers_of program x t.next ≡ flat_map (entries program) t.next.out.items =
+      ap (λ b. if b then flat_map (entries program) t.next.out.items else map (widened program) (pieces (split_at program x)
+      t.next.out.items)) back in
       t.follow e (subst (λ l. Among l e) (sym here) (in_first (entries program) t.next.out.items end e out entry))
 
   -- an instance that passes the program.schedule.fall of a line
@@ -206,7 +211,7 @@ module _ (image : Flash) (program : Program) (fits : ProgramFits program) (nodes
       let left = reaches_less program.schedule x.line x.clock c y.line y.clock d l program.schedule.fall mv.goes reach
       (omega (arith, few, short)) in
       let apart' : z.kind ≢ Main = λ h. mv.apart (sym same.kind ∙ h) in
-      next_fall G kept n z (result_there x node y back y_there) apart' (kept.result x node apart y back y_there good) (d - c) l
+      next_fall G kept n z (result_there x node apart y back y_there) apart' (kept.result x node apart y back y_there good) (d - c) l
       (omega (arith, few, short)) (omega (arith, mv.some, le))
       (subst (λ (a : ℕ). Reaches program.schedule a z.clock (d - c) l program.schedule.fall) (sym same.line)
       (subst (λ (b : ℕ). Reaches program.schedule y.line b (d - c) l program.schedule.fall) (sym same.clock) left)))
@@ -285,7 +290,7 @@ module _ (image : Flash) (program : Program) (fits : ProgramFits program) (nodes
       let same = widened_place program y in
       record {
         x = widened program y;
-        node = result_there f.x f.node y back there;
+        node = result_there f.x f.node f.apart y back there;
         apart = λ h. mv.apart (sym same.kind ∙ h);
         line = same.line ∙ one.0;
         clock = same.clock ∙ one.1;
@@ -410,29 +415,27 @@ module _ (image : Flash) (program : Program) (fits : ProgramFits program) (nodes
     early = λ apart r at_r. ⊎_elim
         (λ (back : t.next.back ≡ true).
         let flat : Among (flat_map (entries program) t.next.out.items) y = subst (λ l. Among l y)
-        (ap (λ b. if b then flat_map (entries program) t.next.out.items else map (widened program) t.next.out.items) back)
+        (ap (λ b. if b then flat_map (entries program) t.next.out.items else map (widened program) (pieces (split_at program x)
+        t.next.out.items)) back)
         (following x e.node y follows) in
         let from = of_flat (entries program) t.next.out.items y flat in
         let x_apart : x.kind ≢ Main = back_apart x e.node back in
         let b = (entry_place program from.0 y (entered x e.node back) (result_line x e.node x_apart from.0 from.1) from.2).0.clock in
         let a = (leaves_at y.line r at_r).after in omega (arith, a, b))
         (λ (back : t.next.back ≡ false).
-        let mapped : Among (map (widened program) t.next.out.items) y = subst (λ l. Among l y)
-        (ap (λ b. if b then flat_map (entries program) t.next.out.items else map (widened program) t.next.out.items) back)
-        (following x e.node y follows) in
-        let from = of_map (widened program) t.next.out.items mapped.0 y mapped.1 in
-        let z = from.0 in
-        let z_there : Among t.next.out.items z = (mapped.0, from.1) in
-        let same = widened_place program z in
-        let kind : y.kind ≡ z.kind = ap (λ (v : Instance). v.kind) (sym from.2) ∙ same.kind in
-        let line : y.line ≡ z.line = ap (λ (v : Instance). v.line) (sym from.2) ∙ same.line in
-        let clock : y.clock ≡ z.clock = ap (λ (v : Instance). v.clock) (sym from.2) ∙ same.clock in
+        let f = from_result program x t.next y back (following x e.node y follows) in
+        let z = f.result in
+        let z_there : Among t.next.out.items z = f.there in
+        let same = result_place program x t.next y f in
+        let kind : y.kind ≡ z.kind = same.kind in
+        let line : y.line ≡ z.line = same.line in
+        let clock : y.clock ≡ z.clock = same.clock in
         ⊎_elim
         (λ (main : x.kind ≡ Main). absurd (apart (kind ∙ main_kind x e.node main z z_there)))
         (λ (x_apart : x.kind ≢ Main).
         let o = owed x e.node x_apart in
         let mv = o.moves z z_there in
-        let few = clocks_few program x t.next.out.items mapped.0 z from.1 in
+        let few = clocks_few program x t.next.out.items z_there.0 z z_there.1 in
         let at_z : ReturnAt returns z.line r = subst (λ l. ReturnAt returns l r) line at_r in
         let leave = leaves_at z.line r at_z in
         subst (λ q. q < r.clock) (sym clock) (⊎_elim (λ lt. lt)

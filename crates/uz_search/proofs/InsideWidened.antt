@@ -19,17 +19,17 @@ use Rattle.uz_search.specs.Widenings.{is_whole, widened_all, widened_by, widened
 use Rattle.uz_search.specs.Loosened.{loosened, loosened_pair, loosened_register, loosened_value}
 use Rattle.uz_search.specs.Widened.{facts_at, widened}
 use Rattle.uz_search.proofs.Lists.{choose}
-use Rattle.uz_search.proofs.WidenedLaws.{widened_place, widened_rest}
+use Rattle.uz_search.proofs.WidenedLaws.{LeavesRest, widened_rest}
 
 -- Values
 
-abbrev Grows : Val → Val → Type 0
+abbrev pub Grows : Val → Val → Type 0
 Grows (Range a) (Range b) = (b.lo ≤ a.lo) × (a.hi ≤ b.hi)
 Grows (Old r) (Old s) = r ≡ s
 Grows OldFlags OldFlags = ⊤
 Grows a b = ⊥
 
-grows_self : (v : Val) → Grows v v
+pub grows_self : (v : Val) → Grows v v
 grows_self (Range e) = (omega arith, omega arith)
 grows_self (Old r) = refl
 grows_self OldFlags = tt
@@ -89,10 +89,10 @@ set_grows (v ∷ vs) (suc r) (suc j) w h = set_grows vs r j w h
 
 -- Pairs
 
-abbrev Spreads : Ends → Ends → Type 0
+abbrev pub Spreads : Ends → Ends → Type 0
 Spreads a b = (b.lo ≤ a.lo) × (a.hi ≤ b.hi)
 
-spreads_self : (e : Ends) → Spreads e e
+pub spreads_self : (e : Ends) → Spreads e e
 spreads_self e = (omega arith, omega arith)
 
 pair_spreads : (fact e : Ends) → Spreads e (widened_pair fact e)
@@ -113,9 +113,9 @@ set_spreads (v ∷ vs) (suc n) (suc j) w h = set_spreads vs n j w h
 
 -- Facts
 
-record Wider (x y : Instance) : Type 0 where
-  registers : (j : ℕ) → Grows (value_at x.regs j) (value_at y.regs j)
-  pairs : (j : ℕ) → Spreads (pair_at x.pairs j) (pair_at y.pairs j)
+pub record Wider (x y : Instance) : Type 0 where
+  pub registers : (j : ℕ) → Grows (value_at x.regs j) (value_at y.regs j)
+  pub pairs : (j : ℕ) → Spreads (pair_at x.pairs j) (pair_at y.pairs j)
 
 wider_self : (x : Instance) → Wider x x
 wider_self x = record { registers = λ j. grows_self (value_at x.regs j); pairs = λ j. spreads_self (pair_at x.pairs j) }
@@ -139,7 +139,7 @@ fact_wider (Pair n fact) x = choose (Wider x) (nat_lt n 3)
     })
     (wider_self x)
 
-wider_then : (x y z : Instance) → Wider x y → Wider y z → Wider x z
+pub wider_then : (x y z : Instance) → Wider x y → Wider y z → Wider x z
 wider_then x y z one all = record {
   registers = λ j. grows_then (value_at x.regs j) (value_at y.regs j) (value_at z.regs j) (one.registers j) (all.registers j);
   pairs = λ j. let a = one.pairs j in let b = all.pairs j in (omega (arith, a.0, b.0), omega (arith, a.1, b.1));
@@ -187,7 +187,7 @@ loosened_wider x = record {
     two : List Val
     two = loosened_pair (pair_at x.pairs 1) 28 one
 
-widened_wider : (p : Program) (x : Instance) → Wider x (widened p x)
+pub widened_wider : (p : Program) (x : Instance) → Wider x (widened p x)
 unfolding widened
 widened_wider p x = wider_then x (loosened x) (widened p x) (loosened_wider x) (facts_wider (facts_at p x.pc) (loosened x))
 
@@ -215,30 +215,30 @@ in_itself itself x =
     let five = and_parts (compared_inside x.compared x.compared) _ four.1 in
     record { temp = one.0; slots = two.0; cells = three.0; flags = four.0; compared = five.0 }
 
-pub inside_widened : PlaceHolds → KnownInItself → (p : Program) (x : Instance) → inside x (widened p x) ≡ true
-inside_widened holds itself p x =
-    let same = widened_place p x in
+-- an instance lies in one that has wider registers and pairs, and is the same else
+pub inside_wider : PlaceHolds → KnownInItself → (x y : Instance) → LeavesRest y x → Wider x y → inside x y ≡ true
+inside_wider holds itself x y same wide =
     let known = in_itself itself x in
-    let temp : range_inside x.temp (widened p x).temp ≡ true = ap (range_inside x.temp) same.temp ∙ known.temp in
-    let slots : slots_inside x.stack.items (widened p x).stack.items ≡ true =
-    ap (λ s. slots_inside x.stack.items s.items) same.stack ∙ known.slots in
-    let cells : cells_inside x.cells.items (widened p x).cells.items ≡ true =
-    ap (λ c. cells_inside x.cells.items c.items) same.cells ∙ known.cells in
-    let flags : flags_inside x.flags (widened p x).flags ≡ true = ap (flags_inside x.flags) same.flags ∙ known.flags in
-    let compared : compared_inside x.compared (widened p x).compared ≡ true =
-    ap (compared_inside x.compared) same.compared ∙ known.compared in
+    let temp : range_inside x.temp y.temp ≡ true = ap (λ (z : Instance). range_inside x.temp z.temp) same ∙ known.temp in
+    let slots : slots_inside x.stack.items y.stack.items ≡ true =
+    ap (λ (z : Instance). slots_inside x.stack.items z.stack.items) same ∙ known.slots in
+    let cells : cells_inside x.cells.items y.cells.items ≡ true =
+    ap (λ (z : Instance). cells_inside x.cells.items z.cells.items) same ∙ known.cells in
+    let flags : flags_inside x.flags y.flags ≡ true = ap (λ (z : Instance). flags_inside x.flags z.flags) same ∙ known.flags in
+    let compared : compared_inside x.compared y.compared ≡ true =
+    ap (λ (z : Instance). compared_inside x.compared z.compared) same ∙ known.compared in
     λ i. place i && (temp i && (slots i && (cells i && (flags i && (compared i && (pairs i && registers i))))))
   where
-    wide : Wider x (widened p x)
-    wide = widened_wider p x
+    place : same_place x y ≡ true
+    place = ap (same_place x) same ∙ holds x x (place_of_itself x)
 
-    place : same_place x (widened p x) ≡ true
-    place = ap (same_place x) (widened_rest p x) ∙ holds x x (place_of_itself x)
+    pairs : pairs_inside x.pairs y.pairs ≡ true
+    pairs = below_all 3 (λ k. range_inside (pair_at x.pairs k) (pair_at y.pairs k)) (λ k. let h = wide.pairs k in
+        range_grown (pair_at x.pairs k) (pair_at y.pairs k) h.0 h.1)
 
-    pairs : pairs_inside x.pairs (widened p x).pairs ≡ true
-    pairs = below_all 3 (λ k. range_inside (pair_at x.pairs k) (pair_at (widened p x).pairs k)) (λ k. let h = wide.pairs k in
-        range_grown (pair_at x.pairs k) (pair_at (widened p x).pairs k) h.0 h.1)
+    registers : registers_inside x.regs y.regs ≡ true
+    registers = below_all 32 (λ r. value_inside (value_at x.regs r) (value_at y.regs r))
+        (λ r. grows_inside (value_at x.regs r) (value_at y.regs r) (wide.registers r))
 
-    registers : registers_inside x.regs (widened p x).regs ≡ true
-    registers = below_all 32 (λ r. value_inside (value_at x.regs r) (value_at (widened p x).regs r))
-        (λ r. grows_inside (value_at x.regs r) (value_at (widened p x).regs r) (wide.registers r))
+pub inside_widened : PlaceHolds → KnownInItself → (p : Program) (x : Instance) → inside x (widened p x) ≡ true
+inside_widened holds itself p x = inside_wider holds itself x (widened p x) (widened_rest p x) (widened_wider p x)

@@ -16,15 +16,17 @@ use Rattle.uz_search.specs.declared.marks.Mark.{Mark}
 use Rattle.uz_search.specs.declared.program.Program.{Program}
 use Rattle.uz_search.specs.declared.returns.Return.{Return}
 use Rattle.uz_search.specs.Fitting.{ProgramFits}
-use Rattle.uz_search.specs.Following.{Among, Flash, Follows, entries, lines_of, line_on, clock_on, most_clocks, clocks_between, shown_at}
+use Rattle.uz_search.specs.Pieces.{pieces}
+use Rattle.uz_search.specs.Following.{split_at, Among, Flash, Follows, entries, lines_of, line_on, clock_on, most_clocks, clocks_between, shown_at}
 use Rattle.uz_search.specs.Marking.{Seen}
 use Rattle.uz_search.specs.Returning.{Noted}
 use Rattle.uz_search.specs.Searching.{IsSearch, Treated}
 use Rattle.uz_search.specs.Widened.{widened}
 use Rattle.uz_search.proofs.FramePlaces.{IsNext, Reaches, at, length_some}
-use Rattle.uz_search.proofs.Lists.{kind_cases, bool_cases, of_map, of_flat}
+use Rattle.uz_search.proofs.Lists.{kind_cases, bool_cases, of_flat}
 use Rattle.uz_search.proofs.MarkingLemmas.{seen_once}
-use Rattle.uz_search.proofs.Results.{Moves}
+use Rattle.uz_search.proofs.PiecesLaws.{from_result, result_place}
+use Rattle.uz_search.proofs.Results.{Moves, apart_main}
 use Rattle.uz_search.proofs.SearchingLemmas.{tree_all}
 use Rattle.uz_search.proofs.WidenedLaws.{widened_place}
 use Rattle.uz_search.proofs.NodeLaws.{Owes, Before, entry_place, start_place}
@@ -446,7 +448,8 @@ module _ (image : Flash) (program : Program) (fits : ProgramFits program) (nodes
   all_more x y e follows = ⊎_elim
       (λ (back : t.next.back ≡ true).
       let flat : Among (flat_map (entries program) t.next.out.items) y = subst (λ l. Among l y)
-      (ap (λ b. if b then flat_map (entries program) t.next.out.items else map (widened program) t.next.out.items) back)
+      (ap (λ b. if b then flat_map (entries program) t.next.out.items else map (widened program) (pieces (split_at program x)
+      t.next.out.items)) back)
       (cover.following image program fits nodes parents marks returns s x e.node y follows) in
       let from = of_flat (entries program) t.next.out.items y flat in
       let x_apart : x.kind ≢ Main = cover.back_apart image program fits nodes parents marks returns s x e.node back in
@@ -458,15 +461,12 @@ module _ (image : Flash) (program : Program) (fits : ProgramFits program) (nodes
             (cover.result_line image program fits nodes parents marks returns s x e.node x_apart from.0 from.1) from.2).0.apart main);
       })
       (λ (back : t.next.back ≡ false).
-      let mapped : Among (map (widened program) t.next.out.items) y = subst (λ l. Among l y)
-      (ap (λ b. if b then flat_map (entries program) t.next.out.items else map (widened program) t.next.out.items) back)
-      (cover.following image program fits nodes parents marks returns s x e.node y follows) in
-      let from = of_map (widened program) t.next.out.items mapped.0 y mapped.1 in
-      let z = from.0 in
-      let z_there : Among t.next.out.items z = (mapped.0, from.1) in
-      let same = widened_place program z in
-      let kind : y.kind ≡ z.kind = ap (λ (v : Instance). v.kind) (sym from.2) ∙ same.kind in
-      let level : y.level ≡ z.level = ap (λ (v : Instance). v.level) (sym from.2) ∙ same.level in
+      let f = from_result program x t.next y back (cover.following image program fits nodes parents marks returns s x e.node y follows) in
+      let z = f.result in
+      let z_there : Among t.next.out.items z = f.there in
+      let same = result_place program x t.next y f in
+      let kind : y.kind ≡ z.kind = same.kind in
+      let level : y.level ≡ z.level = same.level in
       ⊎_elim
       (λ (main : x.kind ≡ Main). record {
         node = t.follow y (cover.following image program fits nodes parents marks returns s x e.node y follows);
@@ -475,7 +475,7 @@ module _ (image : Flash) (program : Program) (fits : ProgramFits program) (nodes
       })
       (λ (x_apart : x.kind ≢ Main). record {
         node = t.follow y (cover.following image program fits nodes parents marks returns s x e.node y follows);
-        good = λ apart. subst Good from.2 (good_result x e.node x_apart z z_there (e.good x_apart));
+        good = λ apart. subst Good (f.plain (apart_main x.kind x_apart)) (good_result x e.node x_apart z z_there (e.good x_apart));
         main = λ main. absurd (((cover.owed image program fits nodes parents marks returns s x e.node x_apart).moves z z_there).apart
             (sym kind ∙ main));
       })

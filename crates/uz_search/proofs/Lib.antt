@@ -34,6 +34,8 @@ pub mod LocalHolds
 pub mod Loosening
 pub mod NewFlags
 pub mod NodeLaws
+pub mod PiecesLaws
+pub mod PiecesPass
 pub mod Positions
 pub mod ScheduleOf
 pub mod SteadyLines

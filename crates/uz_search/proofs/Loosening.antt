@@ -15,8 +15,7 @@ use Rattle.uz_schedule.specs.declared.facts.Val.TheVariants.{Range, Old, OldFlag
 use Rattle.uz_schedule.specs.declared.header.Head.{Head}
 use Rattle.uz_schedule.specs.declared.kinds.Kind.{Kind}
 use Rattle.uz_schedule.specs.declared.states.Instance.{Instance}
-use Rattle.uz_range.specs.Narrowing.{bit_narrowed, common}
-use Rattle.uz_range.specs.Rules.{high_answer}
+use Rattle.uz_range.specs.Narrowing.{bit_narrowed}
 use Rattle.uz_transfer.specs.declared.narrowing.Left.{Left}
 use Rattle.uz_transfer.specs.declared.step.Exit.{Exit}
 use Rattle.uz_transfer.specs.declared.step.Test.{Test}
@@ -86,7 +85,7 @@ module _ (kind : Kind) where
   one_pair_fits : (d : ℕ) (left : Left) (o : Option Ends) → LeftFits kind left → SomeLeftFits kind (with_one_pair d left o)
   one_pair_fits d left None h = tt
   one_pair_fits d left (Some e) h =
-      one_fits (d + 1) (with_pair d e left) (common (high_answer e) (byte_span left (d + 1))) (pair_fits d e left h)
+      both_fit d (against.Register (d + 1)) (with_pair d e left) _ (pair_fits d e left h)
 
   first_pair_fits : (d : ℕ) (left : Left) (o : Option (Ends × Ends)) → LeftFits kind left → SomeLeftFits kind (with_first_pair d left o)
   first_pair_fits d left None h = tt

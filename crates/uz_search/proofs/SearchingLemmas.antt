@@ -101,7 +101,7 @@ pub search_more : (image : Flash) (program : Program) (nodes nodes' : List Insta
     → IsSearch image program nodes parents marks returns done → slice_get nodes done ≡ Some x
     → Treats image program x done marks marks' returns returns' next
     → length marks' ≡ length marks → length returns' ≡ length returns
-    → AddsAll image program nodes (followers_of program next) nodes' parents'
+    → AddsAll image program nodes (followers_of program x next) nodes' parents'
     → IsSearch image program nodes' parents' marks' returns' (done + 1)
 search_more image program nodes nodes' parents parents' marks marks' returns returns' done x next s at t same_marks same_returns adds =
     record {

@@ -12,18 +12,20 @@ use Rattle.uz_schedule.specs.declared.states.Instance.{Instance}
 use Rattle.uz_rules.specs.declared.next.Next.{Next}
 use Rattle.uz_search.specs.declared.program.Program.{Program}
 use Rattle.uz_search.specs.Fitting.{Stands, ProgramFits}
-use Rattle.uz_search.specs.Following.{Among, Flash, Follows, entries, entry_at, lines_of}
+use Rattle.uz_search.specs.Following.{Among, Flash, Follows, entries, entry_at, lines_of, split_at}
+use Rattle.uz_search.specs.Pieces.{pieces}
 use Rattle.uz_search.specs.Visiting.{IsTree}
 use Rattle.uz_search.specs.Widened.{widened}
 use Rattle.uz_search.proofs.FramePlaces.{length_some, next_is, next_below}
-use Rattle.uz_search.proofs.Lists.{of_map, of_flat, bool_cases}
+use Rattle.uz_search.proofs.Lists.{of_flat, bool_cases}
 use Rattle.uz_search.proofs.OneResult.{Steps, steps}
 use Rattle.uz_search.proofs.Results.{same_kind, stands_next, back_is_handler}
 use Rattle.uz_search.proofs.SearchingLemmas.{tree_all}
 use Rattle.uz_search.proofs.TimerLaws.{last_clock}
 use Rattle.uz_search.proofs.ToldLaws.{told_so}
 use Rattle.uz_search.proofs.VisitingLemmas.{some_is}
-use Rattle.uz_search.proofs.WidenedLaws.{widened_place, widened_rest, LeavesRest, SamePlace}
+use Rattle.uz_search.proofs.PiecesLaws.{from_result, result_place, result_rest}
+use Rattle.uz_search.proofs.WidenedLaws.{LeavesRest, SamePlace}
 
 -- a place of another instance
 pub stands_so : (program : Program) (a b : Instance) → SamePlace a b → LeavesRest a b → Stands program b → Stands program a
@@ -82,17 +84,16 @@ pub stands_more : (image : Flash) (program : Program) → ProgramFits program �
 stands_more image program fits x y stands follows = ⊎_elim
     (λ (back : next.back ≡ true).
     let flat : Among (flat_map (entries program) next.out.items) y = subst (λ l. Among l y)
-    (ap (λ b. if b then flat_map (entries program) next.out.items else map (widened program) next.out.items) back) follows.is in
+    (ap (λ b. if b then flat_map (entries program) next.out.items else map (widened program) (pieces (split_at program x) next.out.items))
+    back) follows.is in
     let from = of_flat (entries program) next.out.items y flat in
     let handler = back_is_handler image program x next s back in
     stands_entry program from.0 y fits (stands_next image program fits x stands next s from.0 from.1)
     (same_kind image program x next s from.0 from.1 ∙ handler) from.2)
     (λ (back : next.back ≡ false).
-    let mapped : Among (map (widened program) next.out.items) y = subst (λ l. Among l y)
-    (ap (λ b. if b then flat_map (entries program) next.out.items else map (widened program) next.out.items) back) follows.is in
-    let from = of_map (widened program) next.out.items mapped.0 y mapped.1 in
-    subst (Stands program) from.2 (stands_so program (widened program from.0) from.0 (widened_place program from.0) (widened_rest program from.0)
-    (stands_next image program fits x stands next s from.0 (mapped.0, from.1))))
+    let f = from_result program x next y back follows.is in
+    stands_so program y f.result (result_place program x next y f) (result_rest program x next y f)
+    (stands_next image program fits x stands next s f.result f.there))
     (bool_cases next.back)
   where
     next : Next

@@ -10,9 +10,9 @@ use Rattle.uz_transfer.specs.declared.fail.Fail.{Fail}
 use Rattle.uz_search.specs.declared.marks.Mark.{Mark}
 use Rattle.uz_search.specs.declared.marks.Mark.TheVariants.{Unpassed}
 use Rattle.uz_search.specs.declared.returns.Return.{Return}
-use Rattle.uz_search.specs.declared.asking.Stop.{Stop}
+use Rattle.uz_search.specs.declared.examination.Stop.{Stop}
 use Rattle.uz_search.specs.declared.found.Found.{Found}
-use Rattle.uz_search.specs.declared.asking.Stop.TheVariants as stops
+use Rattle.uz_search.specs.declared.examination.Stop.TheVariants as stops
 use Rattle.uz_search.specs.declared.program.Program.{Program}
 use Rattle.uz_search.specs.Visiting.{AddsAll, ComeFrom, IsTree}
 use Rattle.uz_search.specs.Following.{Flash, After, followers_of, frame_of, lines_of}
@@ -23,7 +23,7 @@ use Rattle.uz_search.proofs.MarkingLemmas.{none_marked}
 use Rattle.uz_search.proofs.SearchingLemmas.{search_more, split_from, whole_back}
 
 pub come_from : (image : Flash) (program : Program) (nodes : List Instance) (done : ℕ) (x : Instance) (next : Next) (follow : List Instance)
-    → slice_get nodes done ≡ Some x → After image program x (Ok next) → follow ≡ followers_of program next
+    → slice_get nodes done ≡ Some x → After image program x (Ok next) → follow ≡ followers_of program x next
     → ComeFrom image program nodes (Some done) follow
 come_from image program nodes done x next follow at after is k y here =
     (x, at, record { next = next; after = after; is = (k, ap (λ l. slice_get l k) (sym is) ∙ here) })
@@ -35,7 +35,7 @@ pub search_step : (image : Flash) (program : Program) (nodes nodes' : List Insta
     → marks0 ≡ marks → returns0 ≡ returns
     → Treats image program x done marks0 marks' returns0 returns' next
     → length marks' ≡ length marks0 → length returns' ≡ length returns0 → nm ≡ length marks → nr ≡ length returns
-    → follow ≡ followers_of program next
+    → follow ≡ followers_of program x next
     → ((image : Flash) (program : Program) → IsTree image program nodes parents → ComeFrom image program nodes (Some done) follow
     → AddsAll image program nodes follow nodes' parents')
     → IsSearch image program nodes' parents' (take nm (marks' ++ drop (length marks') marks))

@@ -103,7 +103,7 @@ closed_without image program nodes parents marks returns s one main nothing = re
   distinct = one;
   starts = s.started;
   closed = λ x y h f. let t = treated x h in
-      t.follow y (subst (λ n. Among (followers_of program n) y) (one_next image program x f.next t.next f.after t.after) f.is);
+      t.follow y (subst (λ n. Among (followers_of program x n) y) (one_next image program x f.next t.next f.after t.after) f.is);
   after = λ x h. let t = treated x h in (t.next, t.after, without x h t (t.next.back) refl);
 }
   where

@@ -40,7 +40,8 @@ use Rattle.uz_rules.specs.declared.next.Next.{Next}
 use Rattle.uz_search.specs.declared.program.Program.{Program}
 use Rattle.uz_search.specs.declared.widening.Widening.{Widening}
 use Rattle.uz_search.specs.declared.widening.Widening.TheVariants.{Register, Pair}
-use Rattle.uz_search.specs.Following.{Among, Flash, Follows, entries, order_of_program}
+use Rattle.uz_search.specs.Following.{Among, Flash, Follows, entries, order_of_program, split_at}
+use Rattle.uz_search.specs.Pieces.{pieces}
 use Rattle.uz_search.specs.Widenings.{is_whole, widened_all, widened_by, widened_pair, widened_value}
 use Rattle.uz_search.specs.Widened.{facts_at, widened}
 use Rattle.uz_search.proofs.Lists.{append_cases, bool_cases, choose, of_flat, of_map}
@@ -49,7 +50,7 @@ use Rattle.uz_search.proofs.Results.{result, same_kind, back_is_handler}
 use Rattle.uz_search.proofs.SearchingLemmas.{tree_all}
 use Rattle.uz_search.proofs.Standing.{entry_of}
 use Rattle.uz_search.proofs.VisitingLemmas.{some_is}
-use Rattle.uz_search.proofs.WidenedLaws.{widened_place}
+use Rattle.uz_search.proofs.PiecesLaws.{from_result, result_place}
 use Rattle.uz_search.specs.Limits.{ComparedKnown, Each, IsOpen, OldFits, IsWithinLimits, EndedWithinLimits}
 use Rattle.uz_search.specs.Loosened.{loosened}
 use Rattle.uz_search.proofs.ComparedLimits.{compared_known, nothing_known}
@@ -369,21 +370,22 @@ within_more : (image : Flash) (p : Program) (x y : Instance) → HeadFits p.head
 within_more image p x y fits h follows = ⊎_elim
     (λ (back : next.back ≡ true).
     let flat : Among (flat_map (entries p) next.out.items) y = subst (λ l. Among l y)
-    (ap (λ b. if b then flat_map (entries p) next.out.items else map (widened p) next.out.items) back) follows.is in
+    (ap (λ b. if b then flat_map (entries p) next.out.items else map (widened p) (pieces (split_at p x) next.out.items)) back) follows.is in
     let from = of_flat (entries p) next.out.items y flat in
     entry_known p from.0 y (within_next image p x next fits h s from.0 from.1) (same_kind image p x next s from.0 from.1 ∙ back_is_handler
     image p x next s back) from.2)
     (λ (back : next.back ≡ false).
-    let mapped : Among (map (widened p) next.out.items) y = subst (λ l. Among l y)
-    (ap (λ b. if b then flat_map (entries p) next.out.items else map (widened p) next.out.items) back) follows.is in
-    let from = of_map (widened p) next.out.items mapped.0 y mapped.1 in
-    let z = from.0 in
-    let w = within_next image p x next fits h s z (mapped.0, from.1) in
-    let place = widened_place p z in
-    subst (IsWithinLimits p) from.2 (within_of p (widened p z) (subst (λ n. n < 32768) (sym place.pc) w.pc)
-    (subst (λ c. ComparedKnown p.head.version (widened p z).kind c) (sym place.compared)
-    (subst (λ k. ComparedKnown p.head.version k z.compared) (sym place.kind) w.compared))
-    (subst (λ k. Known p.head k (widened p z)) (sym place.kind) (widened_known p.head z.kind p z w.known))))
+    let f = from_result p x next y back follows.is in
+    let z = f.piece in
+    let w = within_next image p x next fits h s f.result f.there in
+    let same = result_place p x next y f in
+    subst (IsWithinLimits p) f.is (within_of p (widened p z) (subst (λ (v : Instance). v.pc < 32768) (sym f.is)
+    (subst (λ n. n < 32768) (sym same.pc) w.pc))
+    (subst (λ (v : Instance). ComparedKnown p.head.version v.kind v.compared) (sym f.is)
+    (subst (λ c. ComparedKnown p.head.version y.kind c) (sym same.compared)
+    (subst (λ k. ComparedKnown p.head.version k f.result.compared) (sym same.kind) w.compared)))
+    (subst (λ k. Known p.head k (widened p z)) (sym same.kind ∙ sym (ap (λ (v : Instance). v.kind) f.is))
+    (widened_known p.head f.result.kind p z (f.is_piece.nearly p.head f.result.kind w.known)))))
     (bool_cases next.back)
   where
     next : Next

@@ -1,6 +1,6 @@
 -- What an ended search gives of the schedule that is made of it: it is steady, the handler's returns are quiet, and each instance passes
 -- the local rule.
-use Rattle.std.specs.Prelude.{◌≡◌, ℕ, ◌+◌, ◌<◌, ◌≤◌, true, false, List, Option, Some, None, Ok}
+use Rattle.std.specs.Prelude.{◌≡◌, ℕ, ◌+◌, ◌<◌, ◌≤◌, true, false, length, List, Option, Some, None, Ok}
 use Rattle.avr_table.specs.declared.Instr.{Instr}
 use Rattle.uz_schedule.specs.Instances.{rest_instance}
 use Rattle.uz_schedule.specs.Schedule.{length_of, start_of, next_line, event_at, level_at, response_clocks}
@@ -13,7 +13,9 @@ use Rattle.uz_schedule.specs.declared.states.Rest.{Rest}
 use Rattle.uz_transfer.specs.Step.{IsReadAt}
 use Rattle.uz_rules.specs.declared.next.Next.{Next}
 use Rattle.uz_rules.specs.EdgeRule.{position_of}
+use Rattle.uz_rules.specs.Inside.{inside}
 use Rattle.uz_rules.specs.Local.{local_fail, passes}
+use Rattle.uz_rules.specs.Successors.{lies_in_any}
 use Rattle.uz_search.specs.declared.found.Found.{Found}
 use Rattle.uz_search.specs.declared.program.Program.{Program}
 use Rattle.uz_search.specs.declared.returns.Return.{Return}
@@ -21,6 +23,8 @@ use Rattle.uz_search.specs.Fitting.{ProgramFits}
 use Rattle.uz_search.specs.Following.{Among, Flash, After, lines_of}
 use Rattle.uz_search.specs.Returning.{ReturnAt}
 use Rattle.uz_search.specs.Searching.{IsEnded}
+use Rattle.uz_search.specs.Pieces.{pieces}
+use Rattle.uz_search.specs.Widened.{widened}
 use Rattle.uz_search.specs.Made.{marked_at, IsScheduleOf, IsMadeOf}
 
 -- at the fall of each line stands sync 0, nothing stands before it, and no other sync 0
@@ -74,3 +78,9 @@ EndedPassesLocal = (image : Flash) (p : Program) (found : Found) (cert : Cert) (
     → ProgramFits p → IsEnded image p found → IsMadeOf p found cert
     → Among found.nodes.keys x → HasSuccessors image p cert ids split x → IsReadAt image x.pc row
     → local_fail image cert ids split row (Some x) ≡ None
+
+-- a result of 16 at most passes where whatever lies in what its pieces are widened to lies in the named successors
+abbrev pub PiecesPass : Type 0
+PiecesPass = (p : Program) (cert : Cert) (ids : List ℕ) (split : Option ℕ) (results : List Instance) (y : Instance) → length results ≤ 16
+    → ((z w : Instance) → Among (pieces split results) z → inside w (widened p z) ≡ true → lies_in_any cert ids w ≡ true)
+    → Among results y → passes cert ids split (Some y) ≡ true

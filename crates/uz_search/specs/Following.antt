@@ -11,9 +11,11 @@ use Rattle.uz_schedule.specs.declared.kinds.Kind.TheVariants.{Main}
 use Rattle.uz_schedule.specs.declared.lines.EventKind.{EventKind}
 use Rattle.uz_schedule.specs.declared.states.Instance.{Instance}
 use Rattle.uz_transfer.specs.declared.fail.Fail.{Fail}
+use Rattle.uz_transfer.specs.Kinds.{is_main}
 use Rattle.uz_rules.specs.declared.next.Next.{Next}
 use Rattle.uz_rules.specs.After.{IsAfter}
 use Rattle.uz_search.specs.declared.program.Program.{Program}
+use Rattle.uz_search.specs.Pieces.{pieces, split_in}
 use Rattle.uz_search.specs.Widened.{widened}
 
 -- it stands in the list
@@ -48,15 +50,22 @@ entry_at p end c = handler_entry end.cells.items ((order_of_program p).next end.
 abbrev pub entries : Program → Instance → List Instance
 entries p end = entry_at p end 0 ∷ entry_at p end 1 ∷ entry_at p end 2 ∷ entry_at p end 3 ∷ []
 
--- the instances that follow on a trail: the results, each widened by the facts of its program counter, and after a return from
--- the handler its entry states
-abbrev pub followers_of : Program → Next → List Instance
-followers_of p next = if next.back then flat_map (entries p) next.out.items else map (widened p) next.out.items
+-- the register that is split at an instance: one of main
+abbrev pub split_at : Program → Instance → Option ℕ
+split_at p x = if is_main x.kind then split_in p.splits x.pc else None
+
+-- the instances that follow on a trail: the results, or the pieces in which one goes on, each widened by the facts of its program counter,
+-- and after a return from the handler its entry states
+abbrev pub followers_by : Program → Option ℕ → Next → List Instance
+followers_by p split next = if next.back then flat_map (entries p) next.out.items else map (widened p) (pieces split next.out.items)
+
+abbrev pub followers_of : Program → Instance → Next → List Instance
+followers_of p x next = followers_by p (split_at p x) next
 
 pub record Follows (image : Flash) (p : Program) (x y : Instance) : Type 0 where
   pub next : Next
   pub after : After image p x (Ok next)
-  pub is : Among (followers_of p next) y
+  pub is : Among (followers_of p x next) y
 
 -- Places
 

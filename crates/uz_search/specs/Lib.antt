@@ -10,6 +10,7 @@ pub mod Trails
 pub mod Visiting
 pub mod Widened
 pub mod Chains
+pub mod Pieces
 pub mod Places
 pub mod Widenings
 pub mod Accepting

@@ -5,8 +5,8 @@ use Rattle.uz_schedule.specs.declared.kinds.Kind.TheVariants.{Main}
 use Rattle.uz_schedule.specs.declared.lines.EventKind.{EventKind}
 use Rattle.uz_transfer.specs.declared.fail.Fail.{Fail}
 use Rattle.uz_rules.specs.declared.next.Next.{Next}
-use Rattle.uz_search.specs.declared.asking.Stop.{Stop}
-use Rattle.uz_search.specs.declared.asking.Stop.TheVariants as stops
+use Rattle.uz_search.specs.declared.examination.Stop.{Stop}
+use Rattle.uz_search.specs.declared.examination.Stop.TheVariants as stops
 use Rattle.uz_search.specs.declared.found.Found.{Found}
 use Rattle.uz_search.specs.declared.marks.Mark.{Mark}
 use Rattle.uz_search.specs.declared.marks.Shown.{Shown}
@@ -29,7 +29,7 @@ pub record Treated (image : Flash) (p : Program) (nodes : List Instance) (marks 
   pub clear : (why : Fail) → StuckWith image p x next why → ⊥
   pub seen : x.kind ≢ Main → SeenOnWay p x (most_clocks p x next.out.items) next.emit marks
   pub noted : next.back ≡ true → (end : Instance) → slice_get next.out.items 0 ≡ Some end → Noted returns end
-  pub follow : (y : Instance) → Among (followers_of p next) y → Among nodes y
+  pub follow : (y : Instance) → Among (followers_of p x next) y → Among nodes y
 
 -- one of the first instances, of this number, shows this at a position
 pub record ShownBefore (image : Flash) (p : Program) (nodes : List Instance) (done y : ℕ) (e : Option EventKind) : Type 0 where

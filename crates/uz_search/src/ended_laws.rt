@@ -2,7 +2,7 @@
 
 ghost use Rattle.uz_search.specs.Accepting.{EndedAccepts};
 ghost use Rattle.uz_search.specs.Complete.{EndedFallsOnce, EndedLevelsFit, EndedRestsAreQuiet, EndedLevels, EndedRestsEnter};
-ghost use Rattle.uz_search.specs.Complete.{EndedPassesLocal};
+ghost use Rattle.uz_search.specs.Complete.{EndedPassesLocal, PiecesPass};
 ghost use Rattle.uz_search.specs.Limits.{EndedWithinLimits, LiesInWidened};
 
 use uz_rules::{known_in_itself, place_holds};
@@ -32,7 +32,7 @@ pub fn ended_rests_enter()
     ensures { EndedRestsEnter }
 {}
 
-/// Each instance passes the local rule, where its results lie in the successors that are named.
+/// Each instance passes the local rule, where its results lie in the successors that are named, or are covered.
 pub fn ended_passes_local()
     ensures { EndedPassesLocal }
 {}
@@ -45,6 +45,14 @@ pub fn ended_within_limits()
 /// An instance lies in what widening makes of it.
 pub fn lies_in_widened()
     ensures { LiesInWidened }
+{
+    place_holds();
+    known_in_itself();
+}
+
+/// A result passes the local rule where its pieces, as they go on, lie in the successors that are named.
+pub fn pieces_pass()
+    ensures { PiecesPass }
 {
     place_holds();
     known_in_itself();

@@ -3,7 +3,7 @@
 use crate::instances::Instances;
 use crate::marks::Mark;
 use crate::returns::Return;
-use crate::ways::Ways;
+use crate::successors::Successors;
 use indexmap::IndexSet;
 use std::alloc::AllocError;
 use uz_schedule::{Instance, Sequence};
@@ -62,5 +62,5 @@ pub struct Found {
     /// By line where the handler returns.
     pub returns: Vec<Option<Return>>,
     /// Where each instance leads: a choice of speed, of which nothing is said.
-    pub ways: Ways,
+    pub successors: Successors,
 }

@@ -7,12 +7,13 @@ ghost use Rattle.uz_schedule.specs.Schedule.{length_of};
 ghost use Rattle.uz_schedule.specs.declared.kinds.Kind.TheVariants.{Main};
 ghost use Rattle.uz_schedule.specs.declared.states.Instance.{Instance};
 ghost use Rattle.uz_search.specs.Widened.{widened};
-ghost use Rattle.uz_search.specs.Following.{Among, After, entry_at, entries, followers_of, lines_of};
+ghost use Rattle.uz_search.specs.Following.{Among, After, entry_at, entries, followers_by, lines_of};
 ghost use Rattle.uz_search.specs.Fitting.{ProgramFits, Stands};
 
 use crate::facts::Facts;
+use crate::splitting::{Split, split_results};
 use crate::stuck::is_main;
-use crate::widened::widen;
+use crate::widening::widen;
 use std::alloc::{AllocError, Global};
 use std::collections::BTreeMap;
 use uz_hex::Image;
@@ -32,6 +33,8 @@ pub struct Program {
     pub facts: BTreeMap<u16, Facts>,
     /// The instances at which trails begin.
     pub starts: Sequence<Instance>,
+    /// The registers that are split.
+    pub splits: Sequence<Split>,
 }
 
 impl Program {
@@ -141,19 +144,21 @@ fn widened_all(
     Ok(follow)
 }
 
-/// The instances that follow on a trail.
+/// The instances that follow on a trail where this register is split. The pieces of a result are put in place of it.
 pub(crate) fn followers(
     alloc: Global,
     program: &Program,
-    next: &Next,
+    split: Option<u8>,
+    next: &mut Next,
 ) -> Result<Vec<Instance>, AllocError>
     requires lines { lines_of program.now ≤ most_lines }
-    requires each { next.now.back ≡ true → (x : Instance) → Among next.now.out.items x → x.line < lines_of program.now }
-    ensures { IfOk result (λ v. v.items ≡ followers_of program.now next.now) }
+    requires each { next.old.back ≡ true → (x : Instance) → Among next.old.out.items x → x.line < lines_of program.now }
+    ensures { IfOk result (λ v. v.items ≡ followers_by program.now split next.old) }
 {
     if next.back {
         entries_after(alloc, program, next.out.as_slice())
     } else {
+        split_results(split, &mut next.out);
         widened_all(alloc, program, next.out.as_slice())
     }
 }

@@ -7,23 +7,24 @@ ghost use Rattle.uz_schedule.specs.declared.kinds.Kind.TheVariants.{Main};
 ghost use Rattle.uz_schedule.specs.declared.states.Instance.{Instance};
 ghost use Rattle.uz_search.specs.declared.program.Program.{Program};
 ghost use Rattle.uz_search.specs.Fitting.{ProgramFits};
-ghost use Rattle.uz_search.specs.Following.{Among, Flash, followers_of, frame_of, lines_of};
+ghost use Rattle.uz_search.specs.Following.{Among, Flash, followers_by, frame_of, lines_of};
 ghost use Rattle.uz_search.specs.Refusing.{Refusal};
 ghost use Rattle.uz_search.specs.Returning.{SomeReturn};
 ghost use Rattle.uz_search.specs.Searching.{IsSearchOf, IsEnded, StopHolds};
 ghost use Rattle.uz_search.specs.Trails.{ComeEarlier};
 ghost use Rattle.uz_search.specs.Visiting.{AddsAll, ComeFrom, IsTree};
 
-use crate::asking::{Stop, examine};
+use crate::examination::{Examined, Stop, examine};
 use crate::found::{Found, NotFound};
 use crate::instances::Instances;
 use crate::marks::{Mark, unpassed};
 use crate::passing::line_start;
 use crate::program::{Program, copied_starts, followers, starts_in_main};
 use crate::returns::{Return, is_without_return};
+use crate::splitting::split_at;
+use crate::successors::Successors;
 use crate::trail::{node_at, trail_to};
 use crate::visited::add_all;
-use crate::ways::Ways;
 use indexmap::IndexSet;
 use std::alloc::{AllocError, Global};
 use uz_hex::Image;
@@ -61,30 +62,31 @@ fn refused(
     }
 }
 
-/// Adds what follows the instance of this number, which has these results.
+/// Adds what follows the instance of this number, which has these results, and at which this register is split.
 fn add_followers(
     alloc: Global,
     program: &Program,
     found: &mut Found,
     done: u32,
-    next: &Next,
+    split: Option<u8>,
+    next: &mut Next,
 ) -> Result<(), AllocError>
     requires lines { lines_of program.now ≤ most_lines }
-    requires each { next.now.back ≡ true → (x : Instance) → Among next.now.out.items x → x.line < lines_of program.now }
+    requires each { next.old.back ≡ true → (x : Instance) → Among next.old.out.items x → x.line < lines_of program.now }
     ensures added { OnOk result ((image : Flash) (p : Program) →
         IsTree image p found.old.nodes.keys found.old.parents.items →
-        ComeFrom image p found.old.nodes.keys (Some done) (followers_of program.now next.now) →
-        AddsAll image p found.old.nodes.keys (followers_of program.now next.now) found.new.nodes.keys
+        ComeFrom image p found.old.nodes.keys (Some done) (followers_by program.now split next.old) →
+        AddsAll image p found.old.nodes.keys (followers_by program.now split next.old) found.new.nodes.keys
         found.new.parents.items) }
     ensures marks { found.new.marks ≡ found.old.marks }
     ensures returns { found.new.returns ≡ found.old.returns }
 {
-    let follow = followers(alloc, program, next)?;
-    found.ways.begin()?;
+    let follow = followers(alloc, program, split, next)?;
+    found.successors.begin()?;
     add_all(
         &mut found.nodes,
         &mut found.parents,
-        &mut found.ways,
+        &mut found.successors,
         follow,
         Some(done),
         !next.back,
@@ -108,12 +110,12 @@ fn step(
 {
     let nodes = found.nodes.as_slice();
     let at = node_at(nodes, done as usize);
+    let split = split_at(program, at);
     match examine(
         image,
         program,
         nodes,
-        at,
-        done,
+        Examined { at, by: done },
         found.marks.as_mut_slice(),
         found.returns.as_mut_slice(),
         next,
@@ -126,7 +128,7 @@ fn step(
             stop,
         )),
         Ok(()) => {
-            add_followers(alloc, program, found, done, next)?;
+            add_followers(alloc, program, found, done, split, next)?;
             Ok(())
         }
     }
@@ -159,12 +161,12 @@ fn started(
         parents: Vec::new(alloc),
         marks,
         returns,
-        ways: Ways::new(alloc),
+        successors: Successors::new(alloc),
     };
     match add_all(
         &mut found.nodes,
         &mut found.parents,
-        &mut found.ways,
+        &mut found.successors,
         starts,
         None,
         false,
@@ -199,12 +201,12 @@ fn full(found: Found, limit: u32) -> NotFound
         parents,
         marks,
         returns,
-        ways,
+        successors,
     } = found;
     drop(parents);
     drop(marks);
     drop(returns);
-    drop(ways);
+    drop(successors);
     NotFound::Full {
         instances: Instances::first(nodes, limit),
     }

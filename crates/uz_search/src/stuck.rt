@@ -31,7 +31,7 @@ pub(crate) fn is_main(at: &Instance) -> bool
 }
 
 /// The instruction at a pc, where there is one.
-fn read_at(image: &Image, pc: u16) -> Option<Instr>
+pub(crate) fn read_at(image: &Image, pc: u16) -> Option<Instr>
     ensures { IsReadAt image.now pc result }
 {
     decode(image.word(word_after(pc, 0)), image.word(word_after(pc, 1)))

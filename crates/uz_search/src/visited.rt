@@ -5,7 +5,7 @@ ghost use Rattle.uz_search.specs.declared.program.Program.{Program};
 ghost use Rattle.uz_search.specs.Following.{Flash};
 ghost use Rattle.uz_search.specs.Visiting.{Adds, AddsAll, IsTree, ComeFrom};
 
-use crate::ways::Ways;
+use crate::successors::Successors;
 use indexmap::IndexSet;
 use std::alloc::AllocError;
 use uz_schedule::{Instance, equal_instances_are_one};
@@ -31,7 +31,7 @@ fn add(
 pub(crate) fn add_all(
     nodes: &mut IndexSet<Instance>,
     parents: &mut Vec<Option<u32>>,
-    ways: &mut Ways,
+    successors: &mut Successors,
     items: Vec<Instance>,
     parent: Option<u32>,
     named: bool,
@@ -42,7 +42,7 @@ pub(crate) fn add_all(
 {
     'each: for item in items {
         let place = add(nodes, parents, item, parent)?;
-        ways.put(place, named)?;
+        successors.put(place, named)?;
     }
     Ok(())
 }

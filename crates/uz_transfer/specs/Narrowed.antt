@@ -12,8 +12,8 @@ use Rattle.uz_schedule.specs.declared.states.Instance.{Instance}
 use Rattle.uz_core.specs.declared.machine.Effect.{Effect}
 use Rattle.uz_core.specs.declared.machine.Effect.TheVariants.{Branch, SkipIf}
 use Rattle.uz_core.specs.declared.machine.SkipTest.TheVariants as skip
-use Rattle.uz_range.specs.Narrowing.{bit_narrowed, by_value, by_zero, common, narrowed as both_narrowed, result_narrowed}
-use Rattle.uz_range.specs.Rules.{high_answer}
+use Rattle.uz_range.specs.Narrowing.{bit_narrowed, both, by_value, by_zero, common, narrowed as both_narrowed, result_narrowed}
+use Rattle.uz_range.specs.Rules.{high_answer, low_answer}
 use Rattle.uz_transfer.specs.declared.narrowing.Left.{Left}
 use Rattle.uz_transfer.specs.declared.step.Exit.{Exit}
 use Rattle.uz_transfer.specs.declared.step.Test.{Test}
@@ -59,10 +59,12 @@ abbrev pub with_one : ℕ → Left → Option Ends → Option Left
 with_one d left None = None
 with_one d left (Some e) = Some (with_span d e left)
 
--- a pair, and its high byte with it
+-- a pair, and each of its bytes with it
 abbrev pub with_one_pair : ℕ → Left → Option Ends → Option Left
 with_one_pair d left None = None
-with_one_pair d left (Some e) = with_one (d + 1) (with_pair d e left) (common (high_answer e) (byte_span left (d + 1)))
+with_one_pair d left (Some e) =
+    with_both d (against.Register (d + 1)) (with_pair d e left)
+    (both (common (low_answer e) (byte_span left d)) (common (high_answer e) (byte_span left (d + 1))))
 
 abbrev pub with_first_pair : ℕ → Left → Option (Ends × Ends) → Option Left
 with_first_pair d left None = None

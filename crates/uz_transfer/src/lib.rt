@@ -2,7 +2,7 @@
 #![tactic(auto)]
 
 mod arithmetic;
-mod asking;
+mod branch_test;
 mod comparing;
 mod copies;
 mod emission;

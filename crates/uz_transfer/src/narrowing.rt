@@ -1,12 +1,13 @@
 //! What is left of main's registers at an exit of a branch or a skip.
 
-ghost use Rattle.std.specs.Prelude.{◌≡◌, Some, if◌then◌else◌, slice_set};
-ghost use Rattle.uz_range.specs.Narrowing.{common as common_ends};
+ghost use Rattle.std.specs.Prelude.{◌≡◌, ◌+◌, Some, if◌then◌else◌, slice_set};
+ghost use Rattle.uz_range.specs.Narrowing.{both as both_ends, common as common_ends};
 ghost use Rattle.uz_transfer.specs.Narrowed.{against_span as against_by, as_asked, byte_span, is_taken, left_at as left_by_test};
 ghost use Rattle.uz_transfer.specs.Narrowed.{left_of, narrowed_by as narrowed_by_flag, pair_span, with_both as with_both_left};
 ghost use Rattle.uz_transfer.specs.Narrowed.{with_first_pair as with_first_left, with_left, with_one as with_one_left};
 ghost use Rattle.uz_transfer.specs.Narrowed.{with_one_pair as with_pair_left, with_pair as with_pair_range, with_span as with_byte_range};
 ghost use Rattle.uz_transfer.specs.Values.{is_pointer as names_pointer, pair_number};
+ghost use Rattle.uz_schedule.specs.declared.facts.Against.TheVariants.{Register as RegisterOf};
 ghost use Rattle.uz_schedule.specs.declared.facts.Val.TheVariants.{Range};
 ghost use Rattle.uz_transfer.specs.declared.step.Test.TheVariants.{Bit as BitTest, Flag as FlagTest};
 
@@ -14,7 +15,8 @@ use crate::copies::copy_of;
 use crate::step::{Exit, Test};
 use crate::values::{is_pointer, span_of};
 use uz_range::{
-    high, hull, narrow, narrow_bit, narrow_pair, narrow_pair_result, narrow_result, narrow_value,
+    high, hull, low, narrow, narrow_bit, narrow_pair, narrow_pair_result, narrow_result,
+    narrow_value,
 };
 use uz_schedule::{Against, Compared, Instance, Span, Val, Wide};
 
@@ -147,15 +149,39 @@ fn with_sides(at: &Instance, d: u8, source: Against, first: Span, second: Span) 
     }
 }
 
-/// A pair is left this range, and its high byte what fits.
+/// A pair takes a range, and its bytes take these.
+fn with_bytes(
+    at: &Instance,
+    d: u8,
+    range: Wide,
+    lows: Option<Span>,
+    highs: Option<Span>,
+) -> Option<Left>
+    ensures { result ≡ with_both_left d (RegisterOf (d + 1)) (with_pair_range d range (left_of at.now)) (both_ends lows highs) }
+{
+    match lows {
+        Some(low) => match highs {
+            Some(high) => Some(with_span(
+                with_span(with_pair(all_of(at), d, range), d as usize + 1, high),
+                d as usize,
+                low,
+            )),
+            None => None,
+        },
+        None => None,
+    }
+}
+
+/// A pair is left this range, and each of its bytes what fits.
 fn with_one_pair(at: &Instance, d: u8, range: Option<Wide>) -> Option<Left>
     ensures { result ≡ with_pair_left d (left_of at.now) range }
 {
     match range {
-        Some(range) => match common(high(range), span_at(at, d as usize + 1)) {
-            Some(span) => Some(with_span(with_pair(all_of(at), d, range), d as usize + 1, span)),
-            None => None,
-        },
+        Some(range) => {
+            let lows = common(low(range), span_at(at, d as usize));
+            let highs = common(high(range), span_at(at, d as usize + 1));
+            with_bytes(at, d, range, lows, highs)
+        }
         None => None,
     }
 }

@@ -16,7 +16,7 @@ ghost use Rattle.uz_transfer.specs.Refusals.{fail_of as fail_of_effect};
 ghost use Rattle.uz_transfer.specs.Step.{draft_of as known_after, step_of_row, step_of as step_of_effect, IsStep};
 ghost use Rattle.uz_transfer.specs.declared.fail.Fail.TheVariants.{Clock, Edge};
 
-use crate::asking::test_of;
+use crate::branch_test::test_of;
 use crate::comparing::put_compared;
 use crate::copies::copy_to;
 use crate::emission::{clears, emission};

@@ -3,6 +3,7 @@ use Rattle.std.specs.List.{flat_map}
 use Rattle.uz_search.specs.Following.{Among, entries}
 use Rattle.uz_search.specs.Widened.{widened}
 use Rattle.uz_search.proofs.Lists.{in_map}
+use Rattle.uz_paths.specs.Linked.{pieces_at}
 use Rattle.uz_paths.proofs.certificate.nodes_are_searched.Goals as goal
 
 pub returns : goal.returns
@@ -15,7 +16,7 @@ returns c = record {
         next = result;
         after = after;
         is = subst (λ b. Among (if b then flat_map (entries c.args.program.now) result.out.items else map (widened c.args.program.now)
-            result.out.items) (widened c.args.program.now y)) (sym on)
-            (there.0, in_map (widened c.args.program.now) result.out.items there.0 y there.1);
+            (pieces_at c.args.program.now x result)) (widened c.args.program.now y)) (sym on)
+            (there.0, in_map (widened c.args.program.now) (pieces_at c.args.program.now x result) there.0 y there.1);
       });
 }

@@ -1,14 +1,22 @@
-use Rattle.std.proofs.Common.{refl}
-use Rattle.std.specs.Prelude.{Err}
-use Rattle.uz_paths.proofs.EitherLemmas.{told_cause, told_memory}
+use Rattle.std.proofs.Common.{◌∙◌, sym}
+use Rattle.uz_schedule.specs.declared.kinds.RuleVersion.TheVariants.{Three}
+use Rattle.uz_paths.proofs.EitherLemmas.{caused}
+use Rattle.uz_paths.proofs.FindLemmas.{any_cause, any_splits}
 use Rattle.uz_paths.proofs.either.find_again.Goals as goal
 
-pub returns-in-Err-clause-cause : goal.returns-in-Err-clause-cause
-returns-in-Err-clause-cause c =
-    told_cause c.args.image.now c.args.irq c.args.hints.now c.args.first c.in-Err.second c.told_of.result c.requires.cause
-    c.in-Err.ensures.cause c.told_of.ensures.one
+pub returns-in-Ok-clause-asked : goal.returns-in-Ok-clause-asked
+returns-in-Ok-clause-asked c = any_splits c.args.image.now c.args.irq c.args.hints.now c.in-Ok.cert c.in-Ok.ensures.asked
 
-pub returns-in-Err-clause-complete : goal.returns-in-Err-clause-complete
-returns-in-Err-clause-complete c = λ none.
-    told_memory (Err c.in-Err.second) (Err c.told_of.result) c.in-Err.second c.told_of.result refl refl (c.in-Err.ensures.complete none)
-    c.told_of.ensures.memory
+pub returns-then-is_by_rules-clause-complete : goal.returns-then-is_by_rules-clause-complete
+returns-then-is_by_rules-clause-complete c = λ none.
+    absurd (caused Three c.args.image.now c.args.irq c.args.hints.now c.in-Err.second (sym c.is_by_rules.ensures ∙ c.if-is_by_rules.true)
+    c.in-Err.ensures.cause none)
+
+pub returns-then-is_by_rules-clause-whole : goal.returns-then-is_by_rules-clause-whole
+returns-then-is_by_rules-clause-whole c = λ none.
+    absurd (caused Three c.args.image.now c.args.irq c.args.hints.now c.in-Err.second (sym c.is_by_rules.ensures ∙ c.if-is_by_rules.true)
+    c.in-Err.ensures.cause none)
+
+pub returns-else-is_by_rules-clause-cause : goal.returns-else-is_by_rules-clause-cause
+returns-else-is_by_rules-clause-cause c =
+    any_cause Three c.args.image.now c.args.irq c.args.hints.now c.in-Err.second c.in-Err.ensures.cause

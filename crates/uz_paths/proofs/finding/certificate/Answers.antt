@@ -22,12 +22,13 @@ returns-in-Ok-clause-fits c =
       tells = c.place_tells.ensures;
       holds = c.place_holds.ensures;
       itself = c.known_in_itself.ensures;
+      pass = c.pieces_pass.ensures;
       accepts = c.ended_accepts.ensures;
       stand = c.nodes_are_reached.ensures.stand;
     } in
     subst WellFormed (sym c.certificate_of.ensures)
     (well_formed c.args.image.now c.args.program c.args.entry c.args.found c.in-Ok.parts laws c.requires.fits c.requires.ended
-    c.requires.few c.requires.start c.requires.returns c.in-Ok.ensures)
+    c.requires.few c.requires.splits c.requires.start c.requires.returns c.in-Ok.ensures)
 
 pub returns-in-Ok-clause-accepted : goal.returns-in-Ok-clause-accepted
 returns-in-Ok-clause-accepted c =
@@ -43,12 +44,13 @@ returns-in-Ok-clause-accepted c =
       tells = c.place_tells.ensures;
       holds = c.place_holds.ensures;
       itself = c.known_in_itself.ensures;
+      pass = c.pieces_pass.ensures;
       accepts = c.ended_accepts.ensures;
       stand = c.nodes_are_reached.ensures.stand;
     } in
     subst (Accepts c.args.image.now) (sym c.certificate_of.ensures)
     (accepted c.args.image.now c.args.program c.args.entry c.args.found c.in-Ok.parts laws c.requires.fits c.requires.ended
-    c.requires.few c.requires.start c.requires.returns c.in-Ok.ensures)
+    c.requires.few c.requires.splits c.requires.start c.requires.returns c.in-Ok.ensures)
 
 pub returns-in-Ok-clause-found : goal.returns-in-Ok-clause-found
 returns-in-Ok-clause-found c =

@@ -2,7 +2,7 @@ use Rattle.std.proofs.Common.{subst}
 use Rattle.std.specs.Prelude.{IfSome}
 use Rattle.uz_schedule.specs.WellFormed.{WellFormed}
 use Rattle.uz_check.specs.Acceptance.{Accepts}
-use Rattle.uz_paths.specs.Finding.{IsAsked, IsBy}
+use Rattle.uz_paths.specs.Finding.{IsAskedWhole, IsBy}
 use Rattle.uz_paths.proofs.FindLemmas.{found_unhinted, refused_alike}
 use Rattle.uz_paths.proofs.finding.find_joined.Goals as goal
 
@@ -19,7 +19,7 @@ returns-in-Ok-Some-clause-accepted c =
 
 pub returns-in-Ok-Some-clause-asked : goal.returns-in-Ok-Some-clause-asked
 returns-in-Ok-Some-clause-asked c =
-    subst (λ o. IfSome o (IsAsked c.args.image.now c.args.irq c.args.hints.now)) c.in-Ok-Some.field-0-is c.in-Ok-Some.ensures.asked
+    subst (λ o. IfSome o (IsAskedWhole c.args.image.now c.args.irq c.args.hints.now)) c.in-Ok-Some.field-0-is c.in-Ok-Some.ensures.asked
 
 pub returns-in-Ok-Some-clause-version : goal.returns-in-Ok-Some-clause-version
 returns-in-Ok-Some-clause-version c =

@@ -5,7 +5,7 @@ use Rattle.uz_paths.proofs.joined.choose.Goals as goal
 pub returns-then-accepted-clause-cert : goal.returns-then-accepted-clause-cert
 returns-then-accepted-clause-cert c = λ i. record (joined_cert c.args.program c.args.parts) {
   head = c.take_head.ensures.head i;
-  points = c.from_vec.ensures i;
+  points = c.split_points-points.ensures i;
 }
 
 pub returns-then-accepted-clause-fits : goal.returns-then-accepted-clause-fits

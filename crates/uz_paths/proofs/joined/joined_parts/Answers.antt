@@ -1,6 +1,6 @@
 use Rattle.std.proofs.Common.{◌∙◌, ap, subst}
 use Rattle.std.specs.Prelude.{IfSome}
-use Rattle.uz_join.specs.Telling.{SaysInstances}
+use Rattle.uz_join.specs.Coverage.{SaysInstances}
 use Rattle.uz_paths.specs.Rests.{rests_of}
 use Rattle.uz_paths.proofs.RestLemmas.{few_by_number, few_returns, lines_of_rests}
 use Rattle.uz_paths.proofs.joined.joined_parts.Goals as goal

@@ -1,6 +1,6 @@
 use Rattle.std.proofs.Common.{◌∙◌, List, ap, map, subst, sym}
 use Rattle.uz_join.specs.Joined.{rest_unnumbered}
-use Rattle.uz_join.specs.Telling.{SaysInstances}
+use Rattle.uz_join.specs.Coverage.{SaysInstances}
 use Rattle.uz_schedule.specs.declared.states.Point.{Point}
 use Rattle.uz_paths.proofs.joined.parts_with.Goals as goal
 

@@ -1,4 +1,4 @@
-use Rattle.std.proofs.Common.{◌<◌, ◌∙◌, List, ap, length, subst, sym, ℕ}
+use Rattle.std.proofs.Common.{◌∙◌, List, ap, length, subst, sym, ℕ}
 use Rattle.uz_schedule.specs.declared.states.Point.{Point}
 use Rattle.uz_paths.specs.Plan.{HavePoints, IsPlan}
 use Rattle.uz_paths.proofs.MakeLemmas.{sized}

@@ -4,6 +4,6 @@ use Rattle.uz_rules.proofs.moving.move_to.Goals as goal
 
 pub returns : goal.returns
 returns c =
-    c.put_growing.ensures
-    ∙ moved_is c.args.point.now c.args.growing.now c.args.line c.args.count c.args.clock c.args.level c.args.at.now c.requires.growing
+    c.put_varying.ensures
+    ∙ moved_is c.args.point.now c.args.varying.now c.args.line c.args.count c.args.clock c.args.level c.args.at.now c.requires.varying
     c.requires.kept

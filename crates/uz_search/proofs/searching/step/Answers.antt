@@ -1,6 +1,7 @@
-use Rattle.std.proofs.Common.{◌≡◌, ◌<◌, ◌+◌, ◌++◌, length, slice_get, take, drop, Some, Err, refl, sym, subst, ap, ◌∙◌}
-use Rattle.uz_search.specs.Following.{followers_of}
-use Rattle.uz_search.specs.Visiting.{IsTree}
+use Rattle.std.proofs.Common.{◌≡◌, ℕ, Option, ◌<◌, ◌+◌, ◌++◌, length, slice_get, take, drop, Some, Err, refl, sym, subst, ap, ◌∙◌}
+use Rattle.uz_search.specs.declared.program.Program.{Program}
+use Rattle.uz_search.specs.Following.{Flash, followers_by, followers_of}
+use Rattle.uz_search.specs.Visiting.{AddsAll, ComeFrom, IsTree}
 use Rattle.uz_search.specs.Searching.{AreMarked, IsSearch, StopHolds}
 use Rattle.uz_search.proofs.OneResult.{steps}
 use Rattle.uz_search.proofs.Results.{stands_next}
@@ -42,9 +43,13 @@ returns-in_ok-add_followers-in-Ok-clause-ok c =
     (sym c.add_followers.ensures.returns)
     (search_step image program s.nodes.keys new.nodes.keys s.parents.items new.parents.items
     s.marks.items c.as_mut_slice.result.now c.examine.new.marks s.returns.items c.as_mut_slice-2.result.now c.examine.new.returns
-    s.marks.len s.returns.len c.args.done x c.examine.new.next (followers_of program c.examine.new.next)
+    s.marks.len s.returns.len c.args.done x c.examine.new.next (followers_of program x c.examine.new.next)
     c.requires.so_far at c.as_mut_slice.ensures.value c.as_mut_slice-2.ensures.value c.in-Ok.ensures.ok
-    c.examine.auto.marks c.examine.auto.returns s.marks.ok.0 s.returns.ok.0 refl c.in_ok-add_followers-in-Ok.ensures.added))
+    c.examine.auto.marks c.examine.auto.returns s.marks.ok.0 s.returns.ok.0 refl (subst (λ (o : Option ℕ).
+    (image : Flash) (p : Program) → IsTree image p s.nodes.keys s.parents.items
+    → ComeFrom image p s.nodes.keys (Some c.args.done) (followers_by program o c.examine.new.next)
+    → AddsAll image p s.nodes.keys (followers_by program o c.examine.new.next) new.nodes.keys new.parents.items)
+    c.split_at-split.ensures c.in_ok-add_followers-in-Ok.ensures.added)))
 
 pub examine-requires-clause-stands : goal.examine-requires-clause-stands
 examine-requires-clause-stands c = λ x there.

@@ -1,6 +1,7 @@
 use Rattle.std.proofs.Common.{◌≡◌, arith, false, length, sym, subst}
 use Rattle.uz_rules.specs.declared.next.Next.{Next}
 use Rattle.uz_search.specs.Following.{Among}
+use Rattle.uz_paths.specs.Linking.{pieces_by}
 use Rattle.uz_paths.proofs.FewResults.{one_next, ok_or_err}
 use Rattle.uz_paths.proofs.LinkLemmas.{none_added, added_within}
 use Rattle.uz_paths.proofs.linking.Linking.put_results_of.Goals as goal
@@ -20,7 +21,7 @@ put_next-requires-clause-room c = let few = c.requires.few c.put_after.new.next 
 
 pub returns-in-Ok-clause-more : goal.returns-in-Ok-clause-more
 returns-in-Ok-clause-more c =
-    added_within c.args.self.now.count (length c.put_after.new.next.out.items) c.args.most c.args.successors.now.items c.put_next.new.successors.items
+    added_within c.args.self.now.count (length (pieces_by c.args.self.now c.args.at.now c.put_after.new.next)) c.args.most c.args.successors.now.items c.put_next.new.successors.items
     c.put_next.ensures.more (c.requires.few c.put_after.new.next c.in-Ok.ensures.ok)
 
 pub returns-in-Ok-clause-named : goal.returns-in-Ok-clause-named
@@ -29,7 +30,7 @@ returns-in-Ok-clause-named c =
     let same : c.put_after.new.next ≡ result = one_next c.args.self.now.image.now c.args.self.now.program.now c.args.at.now c.put_after.new.next result
     c.in-Ok.ensures.ok
     after in
-    c.put_next.ensures.named (subst (λ (n : Next). n.back ≡ false) (sym same) on) y (subst (λ (n : Next). Among n.out.items y) (sym same)
+    c.put_next.ensures.named (subst (λ (n : Next). n.back ≡ false) (sym same) on) y (subst (λ (n : Next). Among (pieces_by c.args.self.now c.args.at.now n) y) (sym same)
     there)
 
 pub returns-in-Err-clause-more : goal.returns-in-Err-clause-more
