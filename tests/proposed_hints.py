@@ -41,13 +41,13 @@ FIVE = "sed 's/subi r30,10/subi r30,11/; s/lines 1, 23/lines 1, 24/' pulse.asm >
 
 # mains in C: how their HEX files are made
 GAME = [
-    'avr-gcc -mmcu=atmega644 -Os -fno-jump-tables -o game.elf game.c game-handler.S -Wl,--section-start=.screen=0x800200,--section-start=.cells=0x800300',
+    'avr-gcc -mmcu=atmega644 -Os -o game.elf game.c game-handler.S -Wl,--section-start=.screen=0x800200,--section-start=.cells=0x800300',
     'avr-objcopy -O ihex -j .text -j .data game.elf game.hex',
 ]
 TILES = [
     "printf '.include %s\\n' tiles-memory.asm tiles-macros.asm tiles-handler.asm tiles-data.asm >handler.asm",
     '"$UZEBOX" build handler.asm handler.hex',
-    'avr-gcc -mmcu=atmega644 -Os -fno-jump-tables -Wl,--section-start=.data=0x800800,--defsym=__vector_13=0x2000 -o main.elf tiles-main.c',
+    'avr-gcc -mmcu=atmega644 -Os -Wl,--section-start=.data=0x800800,--defsym=__vector_13=0x2000 -o main.elf tiles-main.c',
     'avr-objcopy -O ihex -j .text -j .data main.elf main.hex',
     '(grep -v ^:00000001 main.hex; cat handler.hex) >tiles-main.hex',
 ]
