@@ -20,7 +20,7 @@ const LINE_LIMIT: usize = 16_777_216;
 
 /// What stands for `@` in the lines of a call.
 #[derive(Drop)]
-pub struct Substitution {
+pub(crate) struct Substitution {
     pub arguments: Lines,
     /// The number of the call, counted from 0.
     pub call: u32,
@@ -74,7 +74,7 @@ fn trim_each(alloc: Global, parts: &[&[u8]]) -> Result<Lines, AllocError>
 
 /// The arguments that come after a macro's name.
 #[tactic(auto, unfolding(crate::specs::Arguments::arguments_of))]
-pub fn arguments_of(alloc: Global, text: &[u8]) -> Result<Lines, AllocError>
+pub(crate) fn arguments_of(alloc: Global, text: &[u8]) -> Result<Lines, AllocError>
     ensures { IfOk result (λ arguments. arguments ≡ arguments_of_text text.now) }
 {
     let text = before_comment(text);
@@ -172,7 +172,7 @@ fn with_number(
 }
 
 /// A line of a macro in a call.
-pub fn replaced(
+pub(crate) fn replaced(
     alloc: Global,
     substitution: &Substitution,
     text: &[u8],

@@ -32,7 +32,7 @@ fn is_plain(line: &[u8]) -> bool
 
 /// Whether some lines have no `@`: those from a place to before another.
 #[tactic(auto, using(crate::proofs::Slices::next_line))]
-pub fn are_plain(lines: &Lines, from: usize, to: usize) -> bool
+pub(crate) fn are_plain(lines: &Lines, from: usize, to: usize) -> bool
     requires order { from ≤ to }
     requires bound { to ≤ length lines.now }
     ensures { result ≡ are_plain_lines (slice_range lines.now from to) }
@@ -88,7 +88,7 @@ pub(crate) fn is_steady(line: &[u8]) -> bool
 
 /// Whether each line is of the same directive in each call.
 #[tactic(auto, using(crate::proofs::Slices::next_line_of_all, crate::proofs::Slices::none_left))]
-pub fn are_steady(lines: &Lines) -> bool
+pub(crate) fn are_steady(lines: &Lines) -> bool
     ensures { result ≡ are_steady_lines lines.now }
 {
     for n in 0..lines.count() {
@@ -148,7 +148,7 @@ fn is_quiet(line: &[u8]) -> bool
 
 /// Whether each line is of the same directive in each call no argument of which begins with `.`.
 #[tactic(auto, using(crate::proofs::Slices::next_line_of_all, crate::proofs::Slices::none_left))]
-pub fn are_quiet(lines: &Lines) -> bool
+pub(crate) fn are_quiet(lines: &Lines) -> bool
     ensures { result ≡ are_quiet_lines lines.now }
 {
     for n in 0..lines.count() {
@@ -171,7 +171,7 @@ fn begins_dot(argument: &[u8]) -> bool
 
 /// Whether any argument begins with `.`.
 #[tactic(auto, using(crate::proofs::Slices::next_line_of_all, crate::proofs::Slices::none_left))]
-pub fn have_dot(arguments: &Lines) -> bool
+pub(crate) fn have_dot(arguments: &Lines) -> bool
     ensures { result ≡ any_dot arguments.now }
 {
     for n in 0..arguments.count() {
@@ -214,7 +214,7 @@ fn greater(a: usize, b: usize) -> usize
 }
 
 /// How many arguments lines need.
-pub fn needed_by(lines: &Lines) -> usize
+pub(crate) fn needed_by(lines: &Lines) -> usize
     ensures { result ≡ needed_by_lines lines.now }
 {
     let mut needed = 0;

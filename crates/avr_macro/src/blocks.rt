@@ -13,7 +13,7 @@ use std::alloc::{AllocError, Global};
 
 /// Blocks that are closed, each kind by its first lines.
 #[derive(Drop)]
-pub struct Blocks {
+pub(crate) struct Blocks {
     pub macros: Vec<Block>,
     pub repeats: Vec<Block>,
     pub conditions: Vec<Block>,

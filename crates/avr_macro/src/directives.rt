@@ -17,7 +17,7 @@ use uz_hex::is_blank;
 
 /// The directives of macros and blocks.
 #[derive(Clone, Copy)]
-pub enum Word {
+pub(crate) enum Word {
     /// `.macro NAME`
     Macro,
     /// `.endm`
@@ -104,7 +104,7 @@ fn dot_word(text: &[u8]) -> Word
 
 /// Which directive a line is.
 #[tactic(auto, unfolding(crate::specs::Directives::directive_of))]
-pub fn directive_of(line: &[u8]) -> Word
+pub(crate) fn directive_of(line: &[u8]) -> Word
     ensures { result ≡ directive_of_line line.now }
 {
     dot_word(after_blanks(line))
@@ -122,7 +122,7 @@ fn after_dot(text: &[u8]) -> &[u8]
 
 /// What comes after a directive's name.
 #[tactic(auto, unfolding(crate::specs::Directives::operands_of))]
-pub fn operands_of(line: &[u8]) -> &[u8]
+pub(crate) fn operands_of(line: &[u8]) -> &[u8]
     ensures { result.now ≡ operands_of_line line.now }
 {
     after_dot(after_blanks(line))
@@ -139,7 +139,7 @@ fn ends_word(text: &[u8]) -> bool
 }
 
 /// The first word of a line, where a blank, a comment or the line's end comes after it.
-pub fn first_word(line: &[u8]) -> Option<&[u8]>
+pub(crate) fn first_word(line: &[u8]) -> Option<&[u8]>
     ensures { option_copied result ≡ first_word_of line.now }
 {
     let text = after_blanks(line);
@@ -151,7 +151,7 @@ pub fn first_word(line: &[u8]) -> Option<&[u8]>
 }
 
 /// What comes after the first word.
-pub fn after_first_word(line: &[u8]) -> &[u8]
+pub(crate) fn after_first_word(line: &[u8]) -> &[u8]
     ensures { result.now ≡ after_first_word_in line.now }
 {
     after_word(after_blanks(line))
@@ -178,7 +178,7 @@ fn macro_name_at(text: &[u8]) -> Option<&[u8]>
 }
 
 /// The one name after `.macro`.
-pub fn macro_name(operands: &[u8]) -> Option<&[u8]>
+pub(crate) fn macro_name(operands: &[u8]) -> Option<&[u8]>
     ensures { option_copied result ≡ macro_name_of operands.now }
 {
     macro_name_at(after_blanks(operands))
@@ -186,7 +186,7 @@ pub fn macro_name(operands: &[u8]) -> Option<&[u8]>
 
 /// Whether a line that closes a block, or parts it, has no further words.
 #[tactic(auto, unfolding(crate::specs::Directives::closes_well))]
-pub fn closes_well(line: &[u8]) -> bool
+pub(crate) fn closes_well(line: &[u8]) -> bool
     ensures { result ≡ closes_well_line line.now }
 {
     is_bare(operands_of(line))

@@ -18,7 +18,7 @@ use std::alloc::{AllocError, Global};
 
 /// Where a block ends.
 #[derive(Clone, Copy)]
-pub struct Closing {
+pub(crate) struct Closing {
     /// The line that closes it.
     pub end: usize,
     /// The first `.else` that lies in no further block of its kind.
@@ -27,7 +27,7 @@ pub struct Closing {
 
 /// A block that is closed.
 #[derive(Clone, Copy)]
-pub struct Block {
+pub(crate) struct Block {
     /// The line at which it begins.
     pub line: usize,
     pub closing: Closing,
@@ -154,7 +154,7 @@ fn closing_at_place(blocks: &[Block], place: usize, line: usize) -> Option<Closi
 }
 
 /// Where the block ends that begins at a line.
-pub fn closing_of(blocks: &[Block], line: usize) -> Option<Closing>
+pub(crate) fn closing_of(blocks: &[Block], line: usize) -> Option<Closing>
     requires { IsNonDecreasingBy (λ b. b.line) blocks.now }
     ensures { result ≡ closing_at line blocks.now }
 {
@@ -174,7 +174,7 @@ fn part_after(part: Option<usize>, start: usize) -> Option<usize>
 
 /// How many lines stand from a place on before the end of a block and before its `.else`, where it ends before another
 /// place.
-pub fn closing_after(closing: Option<Closing>, start: usize, end: usize) -> Option<Closing>
+pub(crate) fn closing_after(closing: Option<Closing>, start: usize, end: usize) -> Option<Closing>
     ensures { result ≡ closing_within start end closing }
 {
     match closing {
@@ -187,7 +187,7 @@ pub fn closing_after(closing: Option<Closing>, start: usize, end: usize) -> Opti
 }
 
 /// How many lines stand before the end of a block.
-pub fn end_of(closing: Option<Closing>) -> Option<usize>
+pub(crate) fn end_of(closing: Option<Closing>) -> Option<usize>
     ensures { result ≡ option_map (λ c. c.end) closing }
 {
     match closing {

@@ -21,19 +21,20 @@ mod origin;
 mod readers;
 mod values;
 
-pub use arguments::{Substitution, arguments_of, replaced};
-pub use at_signs::{are_plain, are_quiet, are_steady, have_dot, needed_by};
-pub use blocks::Blocks;
-pub use directives::{
+pub(crate) use arguments::{Substitution, arguments_of, replaced};
+pub(crate) use at_signs::{are_plain, are_quiet, are_steady, have_dot, needed_by};
+pub(crate) use blocks::Blocks;
+pub(crate) use directives::{
     Word, after_first_word, closes_well, directive_of, first_word, macro_name, operands_of,
 };
-pub use ends::{Block, Closing, closing_after, closing_of, end_of};
+pub(crate) use ends::{Closing, closing_after, closing_of, end_of};
 pub use errors::{MacroError, MacroWhy};
 pub use expansion::expand;
 pub use flat::Flat;
 pub use kept_lines::Lines;
 pub use laws::expansion_is_unique;
-pub use lines::{is_bare, lines_of, trimmed};
+pub use lines::lines_of;
+pub(crate) use lines::{is_bare, trimmed};
 pub use origin::Origin;
-pub use readers::closes_well_in_call;
-pub use values::{Setting, setting_of, text_value};
+pub(crate) use readers::closes_well_in_call;
+pub(crate) use values::{Setting, setting_of, text_value};

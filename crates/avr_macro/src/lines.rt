@@ -74,7 +74,7 @@ fn before_blanks(text: &[u8]) -> &[u8]
 }
 
 /// What stands between the blanks at both ends.
-pub fn trimmed(text: &[u8]) -> &[u8]
+pub(crate) fn trimmed(text: &[u8]) -> &[u8]
     ensures { result.now ≡ trimmed_text text.now }
 {
     before_blanks(after_blanks(text))
@@ -115,7 +115,7 @@ fn begins_comment(text: &[u8]) -> bool
 }
 
 /// Whether there is nothing but blanks and a comment.
-pub fn is_bare(text: &[u8]) -> bool
+pub(crate) fn is_bare(text: &[u8]) -> bool
     ensures { result ≡ is_bare_text text.now }
 {
     begins_comment(after_blanks(text))

@@ -266,7 +266,7 @@ pub(crate) fn directive_in_call(
 
 /// Whether a line of a call that closes a block, or parts it, has no further words. The line isn't made.
 #[tactic(auto, unfolding(crate::specs::Directives::closes_well, crate::specs::Directives::operands_of))]
-pub fn closes_well_in_call(substitution: &Substitution, line: &[u8]) -> bool
+pub(crate) fn closes_well_in_call(substitution: &Substitution, line: &[u8]) -> bool
     ensures { result ≡ closes_well_line (replaced_line substitution.now.arguments substitution.now.call line.now) }
 {
     let mut buffer = Buffer::new();

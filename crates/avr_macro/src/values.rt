@@ -39,7 +39,7 @@ fn tokens_of(alloc: Global, text: &[u8]) -> Result<Option<Vec<Token>>, AllocErro
 
 /// The value of a text, where it is an expression that has one.
 #[tactic(auto, unfolding(crate::specs::Values::text_value))]
-pub fn text_value(
+pub(crate) fn text_value(
     alloc: Global,
     constants: &Symbols,
     text: &[u8],
@@ -54,7 +54,7 @@ pub fn text_value(
 
 /// A name with its value.
 #[derive(Drop)]
-pub struct Setting {
+pub(crate) struct Setting {
     pub name: Vec<u8>,
     pub value: i64,
 }
@@ -97,7 +97,7 @@ fn tokens_setting(
 
 /// The name and value that an `.equ` sets, by what comes after its word, where its expression has a value.
 #[tactic(auto, unfolding(crate::specs::Values::setting_of))]
-pub fn setting_of(
+pub(crate) fn setting_of(
     alloc: Global,
     constants: &Symbols,
     operands: &[u8],

@@ -5,7 +5,7 @@ ghost use Rattle.uz_certificate_commands.specs.Runs.{entered_line, not_entered_l
 ghost use Rattle.uz_certificate_commands.specs.RunValues.{counts_text, edge_counts, end_status, end_text, over_status, over_text};
 
 use std::alloc::{AllocError, Global};
-use uz_files::{Ending, Status, put_number, stopped_at};
+use uz_files::{Ending, Status, put_number, stop_line_at};
 use uz_player::{Captured, Counts, RunEnd};
 
 /// Adds the numbers of the run.
@@ -73,7 +73,7 @@ pub fn ending_of(alloc: Global, captured: Captured) -> Result<Ending, AllocError
     match captured.end {
         RunEnd::Stopped { pc, word } => Ok(Ending {
             status: Status::Stopped,
-            line: stopped_at(alloc, pc, word)?,
+            line: stop_line_at(alloc, pc, word)?,
         }),
         RunEnd::Over => Ok(Ending {
             status: over_status_of(captured.counts),

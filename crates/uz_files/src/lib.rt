@@ -22,7 +22,7 @@ pub use lines::{number_line, put_number, put_value};
 pub use loading::{TEXT_LIMIT, bad_input, load, unread};
 pub use reset::reset_console;
 pub use status::Status;
-pub use stop_lines::{stopped, stopped_at};
+pub use stop_lines::{stop_line, stop_line_at};
 pub use text_fault::TextFault;
 pub use work::{Work, finish_work};
 pub use writing::write_file;

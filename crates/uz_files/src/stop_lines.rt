@@ -18,7 +18,7 @@ fn word_of(why: Why) -> u16
 }
 
 /// The line of a run that is stopped at a word address, with the word there.
-pub fn stopped_at(alloc: Global, pc: u16, word: u16) -> Result<Vec<u8>, AllocError>
+pub fn stop_line_at(alloc: Global, pc: u16, word: u16) -> Result<Vec<u8>, AllocError>
     ensures { IfOk result (λ line. line.items ≡ stopped_at_line pc word) }
 {
     let mut line = Vec::new(alloc);
@@ -29,8 +29,8 @@ pub fn stopped_at(alloc: Global, pc: u16, word: u16) -> Result<Vec<u8>, AllocErr
 }
 
 /// The line of a run that is stopped, by the reason.
-pub fn stopped(alloc: Global, pc: u16, why: Why) -> Result<Vec<u8>, AllocError>
+pub fn stop_line(alloc: Global, pc: u16, why: Why) -> Result<Vec<u8>, AllocError>
     ensures { IfOk result (λ line. line.items ≡ stopped_line pc why) }
 {
-    stopped_at(alloc, pc, word_of(why))
+    stop_line_at(alloc, pc, word_of(why))
 }

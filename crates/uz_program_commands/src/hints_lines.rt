@@ -6,7 +6,7 @@ ghost use Rattle.uz_program_commands.specs.HintsCommand.{is_cell, is_fact, no_hi
 
 use avr_asm::Hint;
 use std::alloc::{AllocError, Global};
-use uz_files::{put_number, stopped};
+use uz_files::{put_number, stop_line};
 use uz_proposal::{NoHints, Remarked, frame_text};
 
 /// The lines of the frame that some hints name: those of the first that does, 0 where none does.
@@ -88,7 +88,7 @@ pub(crate) fn why_none(alloc: Global, why: NoHints) -> Result<Vec<u8>, AllocErro
     ensures { IfOk result (λ lines. lines.items ≡ why_lines why) }
 {
     match why {
-        NoHints::Stopped { pc, why } => no_hints(stopped(alloc, pc, why)?, b"Stopped"),
+        NoHints::Stopped { pc, why } => no_hints(stop_line(alloc, pc, why)?, b"Stopped"),
         NoHints::Frame(found) => no_hints(frame_text(alloc, &found)?, b"Frame"),
         NoHints::Loop => no_hints(Vec::new(alloc), b"Loop"),
         NoHints::Fall => no_hints(Vec::new(alloc), b"Fall"),

@@ -14,7 +14,7 @@ use arrayvec::ArrayVec;
 use std::alloc::{AllocError, Global};
 use uz_console::{Console, Paged};
 use uz_core::{Edge, Why};
-use uz_files::{Ending, Status, stopped};
+use uz_files::{Ending, Status, stop_line};
 use uz_shelf::{Sink, WriteError};
 
 /// How a run of so many clocks ended.
@@ -90,7 +90,7 @@ pub(crate) fn ending_of(alloc: Global, clocks: u32, run_end: RunEnd) -> Result<E
         }),
         RunEnd::Stopped { pc, why } => Ok(Ending {
             status: Status::Stopped,
-            line: stopped(alloc, pc, why)?,
+            line: stop_line(alloc, pc, why)?,
         }),
     }
 }

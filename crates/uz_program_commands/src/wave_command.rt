@@ -21,7 +21,7 @@ use crate::run_input::RunInput;
 use crate::wave_file::{samples, write_wave};
 use std::alloc::{AllocError, Global};
 use uz_console::Console;
-use uz_files::{Ending, Failure, Status, end_with, give_up, reset_console, stopped};
+use uz_files::{Ending, Failure, Status, end_with, give_up, reset_console, stop_line};
 use uz_report::Wave;
 use uz_shelf::{Shelf, Sink, WriteError};
 
@@ -45,7 +45,7 @@ fn task_of(alloc: Global, heard: Heard) -> Result<Task, AllocError>
         }
         Heard::Stopped { pc, why } => Ok(Task::Stop(Ending {
             status: Status::Stopped,
-            line: stopped(alloc, pc, why)?,
+            line: stop_line(alloc, pc, why)?,
         })),
     }
 }

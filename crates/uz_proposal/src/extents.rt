@@ -15,7 +15,7 @@ const RAM_BYTES: usize = 4096;
 
 /// The least and the greatest of some bytes.
 #[derive(Clone, Copy)]
-pub struct Extent {
+pub(crate) struct Extent {
     pub least: u8,
     pub greatest: u8,
 }

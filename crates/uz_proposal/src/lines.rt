@@ -8,7 +8,7 @@ use uz_core::{Edge, EdgeKind};
 
 /// What is between two clocks, as between two matches of the timer.
 #[derive(Clone, Copy)]
-pub struct Line {
+pub(crate) struct Line {
     /// Its clocks.
     pub length: u64,
     /// A number that lines with other events or other clocks of them seldom share. An entry isn't one: its clock varies.
@@ -24,7 +24,7 @@ pub struct Line {
 const BROAD: u64 = 300;
 
 /// Puts one more number into another (FNV).
-pub fn mix(all: u64, value: u64) -> u64 {
+pub(crate) fn mix(all: u64, value: u64) -> u64 {
     (all ^ value).wrapping_mul(0x0000_0100_0000_01B3)
 }
 
@@ -168,7 +168,11 @@ fn lines_from(
 }
 
 /// The lines between clocks that rise, with the edges of a run in the order of time.
-pub fn lines_between(alloc: Global, edges: &[Edge], clocks: &[u64]) -> Result<Vec<Line>, AllocError>
+pub(crate) fn lines_between(
+    alloc: Global,
+    edges: &[Edge],
+    clocks: &[u64],
+) -> Result<Vec<Line>, AllocError>
     ensures { IfOk result (λ lines. shapes_of lines.items ≡ line_shapes edges.now clocks.now) }
 {
     match clocks {
@@ -182,7 +186,7 @@ pub fn lines_between(alloc: Global, edges: &[Edge], clocks: &[u64]) -> Result<Ve
 }
 
 /// Whether the line has a broad sync pulse.
-pub fn is_broad(line: &Line) -> bool {
+pub(crate) fn is_broad(line: &Line) -> bool {
     let fall = line.fall.unwrap_or(0);
     line.rise.unwrap_or(line.length).saturating_sub(fall) >= BROAD
 }

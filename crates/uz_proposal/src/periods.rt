@@ -5,7 +5,7 @@ ghost use Rattle.uz_proposal.specs.Periods.{IsLeastPeriod, IsSameAtEnd};
 
 /// The frame of some lines: they are the same again after so many lines, from one of them on.
 #[derive(Clone, Copy)]
-pub struct Period {
+pub(crate) struct Period {
     pub lines: usize,
     pub from: usize,
 }
@@ -29,7 +29,7 @@ fn same_at_end(keys: &[u64], apart: usize) -> usize
 
 /// The least period, of at most 525 numbers, of the end of a list that covers half of it and at least two periods, from the first
 /// number on from which it is one.
-pub fn period_in(keys: &[u64]) -> Option<Period>
+pub(crate) fn period_in(keys: &[u64]) -> Option<Period>
     ensures { IsLeastPeriod keys.now result }
 {
     let count = keys.len();

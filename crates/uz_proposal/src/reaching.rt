@@ -12,7 +12,7 @@ use uz_console::{Console, Paged};
 use uz_core::Why;
 
 /// Goes on with a run of `limit` clocks until it is over. Where it is stopped, the answer says why.
-pub fn reach(console: &mut Console, limit: u64) -> Option<Why>
+pub(crate) fn reach(console: &mut Console, limit: u64) -> Option<Why>
     requires { limit ≤ 2 ^ 62 }
     ensures { (start : State PadHistory) (edges : List Edge) → RunsTo limit start edges console.old
         → IsReached limit start edges console.new result }

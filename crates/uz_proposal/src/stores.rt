@@ -17,7 +17,7 @@ use uz_hex::FLASH_WORDS;
 
 /// A byte that an instruction stores from a register.
 #[derive(Clone, Copy)]
-pub struct Stored {
+pub(crate) struct Stored {
     /// The data address.
     pub at: u16,
     /// The byte.

@@ -11,7 +11,7 @@ use uz_core::{Edge, EdgeKind};
 
 /// What is seen of main at a pc, at the greatest SP with which main was there.
 #[derive(Clone, Copy)]
-pub struct Place {
+pub(crate) struct Place {
     /// SP before the instruction.
     pub sp: u16,
     /// How often main came to the pc with that SP.
@@ -35,7 +35,7 @@ pub struct Fall {
 
 /// Where a window's turns go. What it tells is a base for guesses: no clause speaks of it.
 #[derive(Drop)]
-pub struct Survey {
+pub(crate) struct Survey {
     /// For each pc what is seen of main there.
     pub places: Vec<Place>,
     /// The interrupt's entries.
@@ -202,7 +202,7 @@ impl Survey {
 
 /// Makes the turns that begin before the limit, and tells where they go, with the bytes at the watched addresses at each entry.
 /// `handling` says whether the handler runs at the first of them. The one error is want of memory.
-pub fn survey_window(
+pub(crate) fn survey_window(
     alloc: Global,
     console: &mut Console,
     limit: u64,

@@ -5,7 +5,7 @@ ghost use Rattle.std.specs.Prelude.{◌≡◌, ◌<◌};
 use uz_core::{AddressMode, BinaryOp, Effect, JumpTarget, Operand, SkipTest};
 
 /// A register's bit, none of a number that is no register's.
-pub fn register_bit(register: u8) -> u32 {
+pub(crate) fn register_bit(register: u8) -> u32 {
     if register < 32 { 1u32 << register } else { 0 }
 }
 
@@ -70,7 +70,7 @@ fn binary_bits(op: BinaryOp, d: u8, source: Operand) -> u32 {
 }
 
 /// The registers that an instruction reads, a bit each, but for what PUSH reads.
-pub fn registers_read(effect: &Effect) -> u32 {
+pub(crate) fn registers_read(effect: &Effect) -> u32 {
     match *effect {
         Effect::CopyByte { source, .. } => operand_bit(source),
         Effect::CopyPair { r, .. } => pair_bits(r),
@@ -93,7 +93,7 @@ pub fn registers_read(effect: &Effect) -> u32 {
 }
 
 /// The registers that an instruction writes, a bit each.
-pub fn registers_written(effect: &Effect) -> u32 {
+pub(crate) fn registers_written(effect: &Effect) -> u32 {
     match *effect {
         Effect::CopyByte { d, .. } => register_bit(d),
         Effect::CopyPair { d, .. } => pair_bits(d),

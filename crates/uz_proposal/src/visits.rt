@@ -16,7 +16,7 @@ use uz_core::{Edge, EdgeKind};
 
 /// The registers at the visits of a place.
 #[derive(Clone, Copy)]
-pub struct Registers {
+pub(crate) struct Registers {
     /// R0 to R31 at the first visit.
     pub values: [u8; 32],
     /// Which of them were the same at all visits.
@@ -202,7 +202,7 @@ fn no_visit() -> Registers
 
 /// The registers at the visits of main to a pc with an SP, in the turns that begin before the limit. `handling` says whether the
 /// interrupt's handler runs at the first of them.
-pub fn registers_at(
+pub(crate) fn registers_at(
     console: &mut Console,
     limit: u64,
     handling: bool,
@@ -224,7 +224,12 @@ pub fn registers_at(
 }
 
 /// The first pc of a run that is marked and that comes with an SP, in the turns that begin before the limit.
-pub fn first_marked(console: &mut Console, limit: u64, marked: &[bool], sp: u16) -> Option<u16>
+pub(crate) fn first_marked(
+    console: &mut Console,
+    limit: u64,
+    marked: &[bool],
+    sp: u16,
+) -> Option<u16>
     requires { limit ≤ 2 ^ 62 }
 {
     for _ in 0..limit {
@@ -256,7 +261,7 @@ fn told(edges: &[Edge]) -> Option<bool> {
 }
 
 /// Whether the handler runs: the next of its entries and returns before the limit is a return.
-pub fn is_handling(console: &mut Console, limit: u64) -> bool
+pub(crate) fn is_handling(console: &mut Console, limit: u64) -> bool
     requires { limit ≤ 2 ^ 62 }
 {
     for _ in 0..limit {

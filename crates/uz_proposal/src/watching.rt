@@ -14,7 +14,7 @@ use uz_core::Why;
 
 /// What was watched.
 #[derive(Drop)]
-pub struct Watched {
+pub(crate) struct Watched {
     /// What the turns showed.
     pub window: Window,
     /// Why there is no turn although the clock is below the limit.
@@ -41,7 +41,7 @@ fn watch_turn(console: &mut Console, window: &mut Window) -> Result<Option<Why>,
 
 /// Makes the turns that begin before the limit, and tells what they show. `handling` says whether the interrupt's handler runs at the
 /// first of them. The one error is want of memory.
-pub fn watch(
+pub(crate) fn watch(
     alloc: Global,
     console: &mut Console,
     limit: u64,

@@ -17,7 +17,7 @@ use uz_core::{Edge, EdgeKind};
 /// What the turns of a window show: their edges, the clocks at which timer 1 matches within them, for each byte of RAM the least and
 /// the greatest value that main stores there and that the interrupt's handler stores there, and how deep the handler's stack gets.
 #[derive(Drop)]
-pub struct Window {
+pub(crate) struct Window {
     pub(crate) edges: Vec<Edge>,
     pub(crate) matches: Vec<u64>,
     pub(crate) main: Vec<Option<Extent>>,

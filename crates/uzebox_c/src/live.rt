@@ -35,7 +35,7 @@ const NO_MEMORY: u32 = 5;
 const LONGEST: usize = 0xFFFF_FFFE;
 
 /// A call that changed nothing.
-fn refused(status: u32) -> Answer
+fn refusal(status: u32) -> Answer
     ensures { result.status ≡ status }
 {
     Answer {
@@ -108,9 +108,9 @@ pub extern "C" fn uzebox_reset(
     match reset(alloc, hex, response) {
         Ok(start) => {
             *state = start;
-            refused(0)
+            refusal(0)
         }
-        Err(status) => refused(status),
+        Err(status) => refusal(status),
     }
 }
 
@@ -166,6 +166,6 @@ pub extern "C" fn uzebox_frame(
                 length: length as u64,
             }
         }
-        Err(status) => refused(status),
+        Err(status) => refusal(status),
     }
 }

@@ -5,6 +5,6 @@ pub returns-in_ok-line-in-Over : goal.returns-in_ok-line-in-Over
 returns-in_ok-line-in-Over c = λ clocks start heard.
     task_over clocks start c.args.heard c.in-Over.wave c.in_ok-line-in-Over.line c.in-Over.is c.in_ok-line-in-Over.ensures heard
 
-pub returns-in_ok-stopped-in-Stopped : goal.returns-in_ok-stopped-in-Stopped
-returns-in_ok-stopped-in-Stopped c = λ clocks start heard.
-    task_stopped clocks start c.args.heard c.in-Stopped.pc c.in-Stopped.why _ c.in-Stopped.is c.in_ok-stopped-in-Stopped.ensures heard
+pub returns-in_ok-stop_line-in-Stopped : goal.returns-in_ok-stop_line-in-Stopped
+returns-in_ok-stop_line-in-Stopped c = λ clocks start heard.
+    task_stopped clocks start c.args.heard c.in-Stopped.pc c.in-Stopped.why _ c.in-Stopped.is c.in_ok-stop_line-in-Stopped.ensures heard
