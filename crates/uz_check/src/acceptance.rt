@@ -100,18 +100,6 @@ fn first_refusal(image: &Image, cert: &Cert, looked: &mut u64) -> Option<Refused
     points_refusal(image, cert, looked)
 }
 
-/// Why a pair is refused, and what was looked at.
-fn counted_verdict(image: &Image, cert: &Cert, looked: &mut u64) -> Option<RefusedWhy>
-    requires { WellFormed cert.now }
-    ensures exact { FirstRefusal image.now cert.now result }
-    ensures accepted { IsNone result ↔ Accepts image.now cert.now }
-    ensures there { IfSome result (IsThere cert.now) }
-    ensures few { looked.new ≤ looked.old + instances_to_check cert.now }
-{
-    local_is_unique();
-    first_refusal(image, cert, looked)
-}
-
 /// Why a pair is refused: the first failing item, and None exactly where `check` accepts the pair. Its condition is that
 /// the certificate is well formed (`uz_cert::well_formed`). Takes no memory.
 pub fn verdict(image: &Image, cert: &Cert) -> Option<RefusedWhy>
@@ -120,8 +108,9 @@ pub fn verdict(image: &Image, cert: &Cert) -> Option<RefusedWhy>
     ensures accepted { IsNone result ↔ Accepts image.now cert.now }
     ensures there { IfSome result (IsThere cert.now) }
 {
+    local_is_unique();
     let mut looked = 0;
-    counted_verdict(image, cert, &mut looked)
+    first_refusal(image, cert, &mut looked)
 }
 
 /// Checks an image against a certificate, and hands both back either way. Takes no memory, and a time linear in the
@@ -155,7 +144,8 @@ pub fn check_counted(image: Image, cert: Cert, looked: &mut u64) -> Result<Accep
     ensures few { looked.new ≤ looked.old + instances_to_check cert }
 {
     soundness();
-    match counted_verdict(&image, &cert, looked) {
+    local_is_unique();
+    match first_refusal(&image, &cert, looked) {
         None => Ok(Accepted { image, cert }),
         Some(why) => Err(Refused { why, image, cert }),
     }

@@ -1,5 +1,5 @@
 use Rattle.uz_check.proofs.Accepting.{none_accepts, verdict_there}
-use Rattle.uz_check.proofs.acceptance.counted_verdict.Goals as goal
+use Rattle.uz_check.proofs.acceptance.verdict.Goals as goal
 
 pub returns-clause-accepted : goal.returns-clause-accepted
 returns-clause-accepted c = none_accepts c.local_is_unique.ensures c.args.image.now c.args.cert.now c.first_refusal.result
