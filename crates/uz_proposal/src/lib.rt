@@ -25,11 +25,11 @@ mod window;
 
 pub use checked::checked_source;
 pub(crate) use lines::{Line, is_broad, lines_between, mix};
-pub use no_hints::NoHints;
+pub use no_hints::{NoFrame, NoHints};
 pub(crate) use periods::{Period, period_in};
 pub use proposing::propose;
 pub(crate) use reaching::reach;
-pub use remarks::Remarked;
+pub use remarks::{Remark, Remarked};
 pub use survey::Fall;
 pub(crate) use survey::{Survey, survey_window};
 pub use text::{frame_text, hint_source};

@@ -5,7 +5,7 @@ use uz_core::Why;
 
 /// Lines that make no frame.
 #[derive(Clone, Copy, Debug)]
-pub(crate) struct NoFrame {
+pub struct NoFrame {
     /// How many they are.
     pub lines: u32,
     /// The clocks between the last falls of sync, the last ones last; 0 where there are fewer.

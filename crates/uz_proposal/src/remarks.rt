@@ -4,7 +4,7 @@ use avr_asm::Hint;
 
 /// What a run showed of a hint.
 #[derive(Clone, Copy)]
-pub(crate) enum Remark {
+pub enum Remark {
     /// Of a frame: the clock at which sync falls, of how many of its lines it falls then, how many lines there are, and how many of
     /// them have half a scanline's clocks.
     Falls {
