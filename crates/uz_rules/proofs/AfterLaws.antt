@@ -1,20 +1,9 @@
 -- The abstract results from the step.
-use Rattle.std.proofs.Common.{◌≡◌, ℕ, zero, suc, ◌≤◌, take, List, [], ◌∷◌, ◌++◌, Option, Some, None, length, map, refl, sym, ◌∙◌, ap, append_assoc, arith}
-use Rattle.std.specs.Prelude.{Ok, Err}
-use Rattle.std.proofs.lemmas.List.{append-nil}
-use Rattle.std.specs.Ordering.{nat_cmp}
-use Rattle.std.specs.FinMap.{FinMap}
-use Rattle.uz_schedule.specs.declared.header.Head.{Head}
-use Rattle.uz_schedule.specs.declared.states.Instance.{Instance}
-use Rattle.uz_schedule.specs.Lines.{Lines}
-use Rattle.uz_transfer.specs.declared.fail.Fail.{Fail}
-use Rattle.uz_transfer.specs.declared.step.Exit.{Exit}
-use Rattle.uz_transfer.specs.declared.step.Step.{Step}
-use Rattle.uz_transfer.specs.declared.step.Test.TheVariants as asks
-use Rattle.uz_transfer.specs.Narrowed.{narrowed}
-use Rattle.uz_transfer.specs.Step.{IsStep, successor}
+use Rattle.uz_rules.proofs.Common.{◌≡◌, ℕ, zero, suc, ◌≤◌, take, List, [], ◌∷◌, ◌++◌, Option, Some, None, length, map, refl, sym, ◌∙◌, ap}
+use Rattle.uz_rules.proofs.Common.{append_assoc, arith, Ok, Err, append-nil, nat_cmp, FinMap, Head, Instance, Lines, Fail, Exit, Step}
+use Rattle.uz_rules.proofs.Common.{narrowed, IsStep, successor, if_there, results_of, next_of, IsAfter}
 use Rattle.uz_rules.specs.declared.next.Next.{Next}
-use Rattle.uz_rules.specs.After.{if_there, results_of, next_of, IsAfter}
+use Rattle.uz_transfer.specs.declared.step.Test.TheVariants as asks
 
 pub after_ok : (head : Head) (lines : Lines) (image : FinMap nat_cmp ℕ) (inst : Instance) (step : Step) (next : Next)
     → IsStep head lines image inst (Ok step) → Ok next ≡ next_of lines inst (Ok step) → IsAfter head lines image inst (Ok next)

@@ -1,59 +1,22 @@
 -- A state at an exit meets what is left there of an instance, by what a branch or a skip asked.
-use Rattle.std.proofs.Common.{◌≡◌, ℕ, ◌<◌, Bool, true, false, not, if◌then◌else◌, nat_eq, nat_lt, Option, Some, None, List}
-use Rattle.std.proofs.Common.{refl, sym, ap, ◌∙◌, arith}
-use Rattle.std.specs.Prelude.{slice_index, ◌&&◌, ◌||◌, Ok}
-use Rattle.std.specs.Ordering.{nat_cmp}
-use Rattle.std.specs.FinMap.{FinMap}
-use Rattle.std.proofs.lemmas.Bool.Decides.{nat_tests}
+use Rattle.uz_rules.proofs.Common.{◌≡◌, ℕ, ◌<◌, Bool, true, false, not, if◌then◌else◌, nat_eq, nat_lt, Option, Some, None, List, refl, sym}
+use Rattle.uz_rules.proofs.Common.{ap, ◌∙◌, arith, slice_index, ◌&&◌, ◌||◌, Ok, nat_cmp, FinMap, nat_tests, clocks_of, Instr, Nop, Outcome}
+use Rattle.uz_rules.proofs.Common.{Next, Taken, SkipOne, SkipTwo, word_of, Effect, Branch, SkipIf, Equal, RegisterBit, bit_is_set, Core}
+use Rattle.uz_rules.proofs.Common.{register, bit_equals, following_pc, outcome_of, changed_core, IsCore, effect_of, EffectFits, PadHistory}
+use Rattle.uz_rules.proofs.Common.{Timer, State, Head, Kind, Main, EventKind, Lines, Instance, zero_keeps, step_of_row, step_unless, Fail}
+use Rattle.uz_rules.proofs.Common.{Exit, Step, is_three, knows_comparisons, is_main, left_of, narrowed, test_of, with_left, with_one, Left}
+use Rattle.uz_rules.proofs.Common.{span_of, value_at, ComparedHolds, CoreMeets, Meets, TimerMeets, LeftMeets, MeetsLeft, and_right}
+use Rattle.uz_rules.proofs.CoreKeeps.{within_span}
+use Rattle.uz_transfer.specs.Narrowed.{byte_span, as_asked, asked, is_taken, left_at, narrowed_by, with_some_left}
 use Rattle.avr_table.specs.Length.{length_of}
-use Rattle.avr_table.specs.Rows.{clocks_of}
-use Rattle.avr_table.specs.declared.Instr.{Instr}
-use Rattle.avr_table.specs.declared.Instr.TheVariants.{Nop}
-use Rattle.avr_table.specs.declared.Outcome.{Outcome}
-use Rattle.avr_table.specs.declared.Outcome.TheVariants.{Next, Taken, SkipOne, SkipTwo}
-use Rattle.uz_hex.specs.Cells.{word_of}
-use Rattle.uz_core.specs.declared.machine.Effect.{Effect}
-use Rattle.uz_core.specs.declared.machine.Effect.TheVariants.{Branch, NoOperation, SkipIf}
-use Rattle.uz_core.specs.declared.machine.SkipTest.TheVariants.{Equal, RegisterBit, IoBit}
-use Rattle.uz_core.specs.Arithmetic.{bit_is_set}
-use Rattle.uz_core.specs.Core.{Core, register, bit_equals, following_pc, outcome_of, changed_core}
-use Rattle.uz_core.specs.CoreRange.{IsCore}
-use Rattle.uz_core.specs.Effects.{effect_of}
-use Rattle.uz_core.specs.OperandRanges.{EffectFits}
-use Rattle.uz_core.specs.PadLine.{PadHistory}
-use Rattle.uz_core.specs.Timer.{Timer}
-use Rattle.uz_core.specs.Turn.{State}
-use Rattle.uz_schedule.specs.declared.facts.Against.TheVariants as against
-use Rattle.uz_schedule.specs.declared.header.Head.{Head}
-use Rattle.uz_schedule.specs.declared.kinds.Kind.{Kind}
-use Rattle.uz_schedule.specs.declared.kinds.Kind.TheVariants.{Main, Handler, Alone}
 use Rattle.uz_schedule.specs.declared.kinds.RuleVersion.TheVariants.{Two}
-use Rattle.uz_schedule.specs.declared.lines.EventKind.{EventKind}
-use Rattle.uz_schedule.specs.Lines.{Lines}
-use Rattle.uz_schedule.specs.declared.states.Instance.{Instance}
-use Rattle.uz_range.proofs.Narrows.{zero_keeps}
 use Rattle.uz_range.proofs.ResultsKeep.{bit_keeps}
 use Rattle.uz_range.specs.Narrowing.{bit_narrowed}
-use Rattle.uz_transfer.specs.Step.{step_of_row, step_unless}
-use Rattle.uz_transfer.specs.declared.fail.Fail.{Fail}
-use Rattle.uz_transfer.specs.declared.step.Exit.{Exit}
-use Rattle.uz_transfer.specs.declared.step.Step.{Step}
-use Rattle.uz_transfer.specs.declared.step.Test.TheVariants as test
-use Rattle.uz_transfer.specs.Compared.{is_three, knows_comparisons}
-use Rattle.uz_transfer.specs.Kinds.{is_main}
-use Rattle.uz_transfer.specs.Narrowed.{as_asked, asked, byte_span, is_taken, left_at, left_of, narrowed, narrowed_by, test_of, with_left}
-use Rattle.uz_transfer.specs.Narrowed.{with_one, with_some_left}
-use Rattle.uz_transfer.specs.declared.narrowing.Left.{Left}
-use Rattle.uz_transfer.specs.Values.{span_of, value_at}
-use Rattle.uz_rules.specs.ComparedHolds.{ComparedHolds}
-use Rattle.uz_rules.specs.CoreMeets.{CoreMeets}
-use Rattle.uz_rules.specs.Meets.{Meets, TimerMeets}
-use Rattle.uz_rules.specs.NarrowingMeets.{LeftMeets}
-use Rattle.uz_rules.specs.OneStep.{MeetsLeft}
 use Rattle.uz_rules.proofs.Classes.{memory_same}
-use Rattle.uz_rules.proofs.CoreKeeps.{in_span, register_byte}
 use Rattle.uz_rules.proofs.ExitsHold.{equals, is_equals}
 use Rattle.uz_rules.proofs.NarrowingLaws.{both_meet, narrowing_meets, one_meets}
+use Rattle.uz_schedule.specs.declared.facts.Against.TheVariants as against
+use Rattle.uz_transfer.specs.declared.step.Test.TheVariants as test
 
 -- The clocks of a branch and of a skip tell where it goes
 
@@ -72,21 +35,12 @@ pub record TellsAway (e : Effect) (clocks : Outcome → ℕ) : Type 0 where
   pub one : is_skip e ≡ true → nat_lt 1 (clocks SkipOne) ≡ true
   pub two : is_skip e ≡ true → nat_lt 1 (clocks SkipTwo) ≡ true
 
-at_next : (i : Instr) → (not (is_branch (effect_of i) || is_skip (effect_of i)) || not (nat_lt 1 (clocks_of i Next))) ≡ true
-at_next Nop = refl
-at_next i = refl
-
-at_taken : (i : Instr) → (not (is_branch (effect_of i)) || nat_lt 1 (clocks_of i Taken)) ≡ true
-at_taken Nop = refl
-at_taken i = refl
-
-at_one : (i : Instr) → (not (is_skip (effect_of i)) || nat_lt 1 (clocks_of i SkipOne)) ≡ true
-at_one Nop = refl
-at_one i = refl
-
-at_two : (i : Instr) → (not (is_skip (effect_of i)) || nat_lt 1 (clocks_of i SkipTwo)) ≡ true
-at_two Nop = refl
-at_two i = refl
+at_each : (i : Instr) → ((not (is_branch (effect_of i) || is_skip (effect_of i)) || not (nat_lt 1 (clocks_of i Next))) ≡ true)
+    × ((not (is_branch (effect_of i)) || nat_lt 1 (clocks_of i Taken)) ≡ true)
+    × ((not (is_skip (effect_of i)) || nat_lt 1 (clocks_of i SkipOne)) ≡ true)
+    × ((not (is_skip (effect_of i)) || nat_lt 1 (clocks_of i SkipTwo)) ≡ true)
+at_each Nop = (refl, refl, refl, refl)
+at_each i = (refl, refl, refl, refl)
 
 then_true : (a b : Bool) → (not a || b) ≡ true → a ≡ true → b ≡ true
 then_true true b e h = e
@@ -94,15 +48,14 @@ then_true false b e h = absurd cc
 
 then_false : (a b : Bool) → (not a || not b) ≡ true → a ≡ true → b ≡ false
 then_false true false e h = refl
-then_false true true e h = absurd cc
-then_false false b e h = absurd cc
+then_false a b e h = absurd cc
 
 pub row_tells : (i : Instr) → TellsAway (effect_of i) (clocks_of i)
 row_tells i = record {
-  next = then_false (is_branch (effect_of i) || is_skip (effect_of i)) (nat_lt 1 (clocks_of i Next)) (at_next i);
-  taken = then_true (is_branch (effect_of i)) (nat_lt 1 (clocks_of i Taken)) (at_taken i);
-  one = then_true (is_skip (effect_of i)) (nat_lt 1 (clocks_of i SkipOne)) (at_one i);
-  two = then_true (is_skip (effect_of i)) (nat_lt 1 (clocks_of i SkipTwo)) (at_two i);
+  next = then_false (is_branch (effect_of i) || is_skip (effect_of i)) (nat_lt 1 (clocks_of i Next)) (at_each i).0;
+  taken = then_true (is_branch (effect_of i)) (nat_lt 1 (clocks_of i Taken)) (at_each i).1;
+  one = then_true (is_skip (effect_of i)) (nat_lt 1 (clocks_of i SkipOne)) (at_each i).2;
+  two = then_true (is_skip (effect_of i)) (nat_lt 1 (clocks_of i SkipTwo)) (at_each i).3;
 }
 
 -- so the exit is the one that is taken just where the test holds
@@ -144,8 +97,7 @@ equal_left : (d r : ℕ) (taken : Bool) (inst : Instance) (o s : Core) → d < 3
 equal_left d r taken inst o s hd hr c meets is =
     both_meet d (against.Register r) inst o s _ c meets
     (zero_keeps taken (span_of (value_at inst.regs d)) (span_of (value_at inst.regs r)) (register s d) (register s r)
-    (in_span (value_at inst.regs d) o (register s d) (register_byte s d c) (meets.regs d hd))
-    (in_span (value_at inst.regs r) o (register s r) (register_byte s r c) (meets.regs r hr)) is)
+    (within_span inst o s d c hd meets) (within_span inst o s r c hr meets) is)
 
 bit_left : (r b : ℕ) (set taken : Bool) (inst : Instance) (o s : Core) → r < 32 → b < 8 → IsCore s → CoreMeets inst o s
     → bit_is_set (register s r) b ≡ as_asked taken set
@@ -156,7 +108,7 @@ bit_left r b set taken inst o s hr hb c meets is = by_case (nat_lt b 8)
         (byte_span (left_of inst) r)) else Some (left_of inst)) inst o s
     by_case true = one_meets r inst (left_of inst) o s _ c meets
         (bit_keeps b (as_asked taken set) (span_of (value_at inst.regs r)) (register s r) hb
-        (in_span (value_at inst.regs r) o (register s r) (register_byte s r c) (meets.regs r hr)) is)
+        (within_span inst o s r c hr meets) is)
     by_case false = meets
 
 -- At the exit of an instruction
@@ -189,15 +141,12 @@ asked_left (SkipIf (RegisterBit r b set)) image words clocks loaded before s o e
     (g.tells.next refl) (g.tells.one refl) (g.tells.two refl) in
     bit_left r b set (is_taken exit) inst o s fits.0 fits.1 c meets (ap (λ xs. bit_is_set (slice_index xs r) b) g.registers
     ∙ (bit_asked (register before r) b set ∙ ap (λ t. as_asked t set) (sym taken)))
-asked_left (SkipIf (IoBit at b set)) image words clocks loaded before s o exit inst fits g c meets holds = meets
-asked_left NoOperation image words clocks loaded before s o exit inst fits g c meets holds = meets
 asked_left e image words clocks loaded before s o exit inst fits g c meets holds = meets
 
 -- a state that meets an instance meets what is left of it
 timer_same : (kind : Kind) (inst : Instance) (left : Left) (t : Timer) → TimerMeets kind inst t → TimerMeets kind (with_left left inst) t
 timer_same Main inst left t h = h
-timer_same Handler inst left t h = h
-timer_same Alone inst left t h = h
+timer_same kind inst left t h = h
 
 pub left_meets : (head : Head) (left : Option Left) (inst : Instance) (o : Core) (d : ℕ) (new : State PadHistory) → LeftMeets left inst o new.core
     → Meets head inst o d new → MeetsLeft head (with_some_left left inst) o d new
@@ -228,26 +177,34 @@ exit_meets head at e image words clocks loaded before o d exit inst new fits g c
 
 -- Nothing is asked outside main, nor by the rules of version 2
 
-and_false : (a b : Bool) → b ≡ false → (a && b) ≡ false
-and_false true b e = e
-and_false false b e = refl
-
 pub asks_none : (head : Head) (e : Effect) (inst : Instance) → is_main inst.kind ≡ false → test_of head e inst ≡ test.Nothing
 asks_none head e inst out =
-    ap (λ t. if t then asked e else test.Nothing) (and_false (is_three head.version) (is_main inst.kind) out)
+    ap (λ t. if t then asked e else test.Nothing) (and_right (is_three head.version) (is_main inst.kind) out)
 
 pub two_asks_none : (head : Head) (e : Effect) (inst : Instance) → head.version ≡ Two → test_of head e inst ≡ test.Nothing
 two_asks_none head e inst two = ap (λ v. if is_three v && is_main inst.kind then asked e else test.Nothing) two
 
-step_unasked : (why : Option Fail) (emitted : Option (Option EventKind)) (in_time : Bool) (plan step : Step)
-    → step_unless why emitted in_time plan ≡ Ok step → step.test ≡ plan.test
-step_unasked (Some why) emitted in_time plan step e = absurd cc
-step_unasked None None in_time plan step e = absurd cc
-step_unasked None (Some event) false plan step e = absurd cc
-step_unasked None (Some event) true plan step e =
-    let same : record plan { emit = event } ≡ step = cc in ap (λ (x : Step). x.test) (sym same)
+-- what a step that isn't refused tells
+pub record Told (refused : Option Fail) (emitted : Option (Option EventKind)) (in_time : Bool) (plan step : Step) : Type 0 where
+  pub event : Option EventKind
+  pub fine : refused ≡ None
+  pub emits : emitted ≡ Some event
+  pub time : in_time ≡ true
+  pub is : step ≡ record plan { emit = event }
+
+pub step_tells : (refused : Option Fail) (emitted : Option (Option EventKind)) (in_time : Bool) (plan step : Step)
+    → step_unless refused emitted in_time plan ≡ Ok step → Told refused emitted in_time plan step
+step_tells None (Some event) true plan step e = record {
+  event = event;
+  fine = refl;
+  emits = refl;
+  time = refl;
+  is = (let q : record plan { emit = event } ≡ step = cc in sym q);
+}
+step_tells refused emitted in_time plan step e = absurd cc
 
 pub row_unasked : (head : Head) (lines : Lines) (image : FinMap nat_cmp ℕ) (row : Option Instr) (inst : Instance) (step : Step)
     → head.version ≡ Two → step_of_row head lines image row inst ≡ Ok step → step.test ≡ test.Nothing
 row_unasked head lines image None inst step two e = absurd cc
-row_unasked head lines image (Some i) inst step two e = step_unasked _ _ _ _ step e ∙ two_asks_none head (effect_of i) inst two
+row_unasked head lines image (Some i) inst step two e =
+    ap (λ (x : Step). x.test) (step_tells _ _ _ _ step e).is ∙ two_asks_none head (effect_of i) inst two

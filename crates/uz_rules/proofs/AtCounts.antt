@@ -1,41 +1,25 @@
 -- An instance lies in an instance of a point's box exactly where it lies in what the point's facts say at a count with its clock.
-use Rattle.std.proofs.Common.{◌-◌, ◌<◌, ◌≤◌, ◌≡◌, ℕ, zero, suc, ◌+◌, Bool, true, false, Option, Some, None, nat_eq, nat_le, nat_lt}
-use Rattle.std.proofs.Common.{refl, sym, if◌then◌else◌, ◌∙◌, ap, subst, arith, ◌*◌, ◌/◌, inl, inr}
-use Rattle.std.specs.Prelude.{◌&&◌, ◌||◌, ℤ, pos, negsuc, ◌+ℤ◌, ◌*ℤ◌, slice_get, option_and_then}
-use Rattle.std.proofs.lemmas.Option.{option_and_then_some}
-use Rattle.std.proofs.lemmas.Bool.Decides.{nat_tests, eqb_tells}
-use Rattle.std.proofs.lemmas.Int.{ints}
+use Rattle.uz_rules.proofs.Common.{eq-eqb, or_left, or_right, false_from_ne_true, and_parts, ◌-◌, ◌<◌, ◌≤◌, ◌≡◌, ℕ, zero, suc, ◌+◌, Bool}
+use Rattle.uz_rules.proofs.Common.{true, false, Option, Some, None, nat_eq, nat_le, nat_lt, refl, sym, if◌then◌else◌, ◌∙◌, ap, subst, arith}
+use Rattle.uz_rules.proofs.Common.{◌*◌, ◌/◌, inl, inr, ◌&&◌, ◌||◌, ℤ, pos, negsuc, ◌+ℤ◌, ◌*ℤ◌, slice_get, option_and_then}
+use Rattle.uz_rules.proofs.Common.{option_and_then_some, nat_tests, eqb_tells, ints, abs_diff, Instance, Point, Schedule, Cert, length_of}
+use Rattle.uz_rules.proofs.Common.{start_of, level_at, is_in_box, clock_below, clock_at, instance_of, instance_at_clock, instance_in}
+use Rattle.uz_rules.proofs.Common.{instance_at, range_inside, is_some, same_kind, same_place, lies_at, any_from, lies_in_box}
+use Rattle.uz_rules.proofs.Common.{same_program_place, said_at, facts_inside, is_beside, same_Some, has_level, is_line_of, timer_inside}
+use Rattle.uz_rules.proofs.Common.{stands_beside, IsAtCount, LiesAtSome}
 use Rattle.std.proofs.Math.IntN.{neg_ℤ, pos-*ℤ-pos, negsuc-*ℤ-pos}
 use Rattle.std.proofs.Math.Nat.{mul-div_cancel, mul_comm}
-use Rattle.std.specs.Int.{abs_diff}
 use Rattle.std.specs.Int.RustNames.{unsigned_abs}
-use Rattle.uz_schedule.specs.declared.states.Instance.{Instance}
-use Rattle.uz_schedule.specs.declared.states.Point.{Point}
-use Rattle.uz_schedule.specs.declared.lines.Schedule.{Schedule}
-use Rattle.uz_schedule.specs.declared.certificate.Cert.{Cert}
-use Rattle.uz_schedule.specs.Schedule.{length_of, start_of, level_at}
-use Rattle.uz_schedule.specs.Instances.{is_in_box, clock_below, clock_at, instance_of, instance_at_clock, instance_in, instance_at}
-use Rattle.uz_transfer.specs.Refusals.{range_inside, is_some}
-use Rattle.uz_rules.specs.Inside.{same_kind, same_timer, same_place, inside}
-use Rattle.uz_rules.specs.Successors.{lies_at, any_from, lies_in_box, same_program_place}
-use Rattle.uz_rules.specs.FactInclusion.{said_at, facts_inside, has_level, is_line_of, timer_inside, is_beside, stands_beside, IsAtCount}
-use Rattle.uz_rules.specs.FactInclusion.{LiesAtSome}
+use Rattle.uz_rules.specs.Inside.{same_timer, inside}
 use Rattle.uz_rules.proofs.InsideMeets.{place_tells}
 
 -- The clock of an instance of a point
-
-some_same : {A : Type 0} (a b : A) → Some a ≡ Some b → a ≡ b
-some_same a b e = cc
-
-and_both : (a b : Bool) → (a && b) ≡ true → (a ≡ true) × (b ≡ true)
-and_both true b e = (refl, e)
-and_both false b e = absurd cc
 
 clock_is : (length : ℕ) (z : ℤ) (clock : ℕ) → clock_below length z ≡ Some clock → z ≡ pos clock
 clock_is length (pos k) clock e = by_case (nat_lt k length) e
   where
     by_case : (t : Bool) → (if t then Some k else None) ≡ Some clock → pos k ≡ pos clock
-    by_case true e = ap pos (some_same k clock e)
+    by_case true e = ap pos (same_Some k clock e)
     by_case false e = absurd cc
 clock_is length (negsuc k) clock e = absurd cc
 
@@ -49,20 +33,17 @@ has_clock s p l c b e = by_box (is_in_box p l c) e
     by_box true e =
         option_and_then_some (instance_at_clock s p l c) (clock_at s p l c) b e (λ clock at here.
         option_and_then_some (λ level. Some (instance_of p l c clock level)) (level_at s (start_of s l + clock)) b here (λ level got there.
-        subst (λ (x : Instance). pos p.clock +ℤ p.slope *ℤ pos c ≡ pos x.clock) (some_same (instance_of p l c clock level) b there)
+        subst (λ (x : Instance). pos p.clock +ℤ p.slope *ℤ pos c ≡ pos x.clock) (same_Some (instance_of p l c clock level) b there)
         (clock_is (length_of s l) (pos p.clock +ℤ p.slope *ℤ pos c) clock at)))
 
 clock_told : (s : Schedule) (p : Point) (c : ℕ) (inst : Instance) (at : Option Instance) → instance_in s p inst.line c ≡ at
     → lies_at at inst ≡ true → pos p.clock +ℤ p.slope *ℤ pos c ≡ pos inst.clock
 clock_told s p c inst None is h = absurd cc
 clock_told s p c inst (Some b) is h =
-    let place = place_tells inst b (and_both (same_place inst b) _ h).0 in
+    let place = place_tells inst b (and_parts (same_place inst b) _ h).0 in
     has_clock s p inst.line c b is ∙ ap pos (sym place.clock)
 
 -- The instance at a count, item by item
-
-equal_itself : (a : ℕ) → nat_eq a a ≡ true
-equal_itself a = grind (arith, nat_tests)
 
 elsewhere : (x level f : Bool) → (((x && false) && level) && f) ≡ false
 elsewhere true level f = refl
@@ -87,7 +68,7 @@ alike p inst = same_program_place p inst && timer_inside p inst
 inside_by_facts : (p : Point) (inst : Instance) (c level : ℕ) → inside inst (instance_of p inst.line c inst.clock level)
     ≡ (((alike p inst && true) && (true && true)) && facts_inside inst p c)
 unfolding facts_inside
-inside_by_facts p inst c level = rw (equal_itself inst.line, equal_itself inst.clock)
+inside_by_facts p inst c level = rw (eq-eqb inst.line inst.line refl, eq-eqb inst.clock inst.clock refl)
     (seven_parts (same_kind inst.kind p.kind) (nat_eq inst.pc p.pc) (same_timer inst (said_at p inst p.c0)) (range_inside inst.temp p.temp)
     (facts_inside inst p c))
 
@@ -140,20 +121,8 @@ any_holds test k (suc n) c h l t = elim (eqb_tells k c) [
   | inl e ↦ or_left (test k) (any_from test (suc k) n) (ap test e.1 ∙ t)
   | inr e ↦ or_right (test k) (any_from test (suc k) n) (any_holds test (suc k) n c (omega (arith, h, e.1)) (omega (arith, l)) t)
 ]
-  where
-    or_left : (a b : Bool) → a ≡ true → (a || b) ≡ true
-    or_left true b e = refl
-    or_left false b e = absurd cc
-
-    or_right : (a b : Bool) → b ≡ true → (a || b) ≡ true
-    or_right true b e = refl
-    or_right false b e = e
 
 -- The box
-
-not_found : (t : Bool) → (t ≡ true → ⊥) → t ≡ false
-not_found true h = absurd (h refl)
-not_found false h = refl
 
 at_point : (cert : Cert) (id l c : ℕ) (p : Point) → slice_get cert.points id ≡ Some p → instance_at cert id l c
     ≡ instance_in cert.schedule p l c
@@ -184,9 +153,9 @@ box_by_point cert id p inst is = any_same (λ c. lies_at (instance_at cert id in
 -- a point that doesn't stand beside the instance has no such instance
 stands_elsewhere : (cert : Cert) (id : ℕ) (p : Point) (inst : Instance) → slice_get cert.points id ≡ Some p
     → stands_beside cert.schedule p inst ≡ false → lies_in_box cert id (Some p) inst ≡ false
-stands_elsewhere cert id p inst is other = box_by_point cert id p inst is ∙ not_found _ (λ t.
+stands_elsewhere cert id p inst is other = box_by_point cert id p inst is ∙ false_from_ne_true _ (λ t.
     let found = found_in cert.schedule p inst t in
-    let both = and_both (stands_beside cert.schedule p inst) _ found.2 in
+    let both = and_parts (stands_beside cert.schedule p inst) _ found.2 in
     let never : true ≡ false = sym both.0 ∙ other in
     absurd cc)
 
@@ -202,9 +171,9 @@ by_counts cert id p inst true is beside found told =
     let here : (stands_beside cert.schedule p inst && facts_inside inst p some.count) ≡ true = rw (beside, facts) refl in
     box_by_point cert id p inst is ∙ any_holds (λ c. lies_at (instance_in cert.schedule p inst.line c) inst) p.c0 (suc p.c1 - p.c0)
     some.count first (omega (arith, first, last)) (at_count cert.schedule p inst some.count some.at ∙ here)
-by_counts cert id p inst false is beside found told = box_by_point cert id p inst is ∙ not_found _ (λ t.
+by_counts cert id p inst false is beside found told = box_by_point cert id p inst is ∙ false_from_ne_true _ (λ t.
     let got = found_in cert.schedule p inst t in
-    let both = and_both (stands_beside cert.schedule p inst) _ got.2 in
+    let both = and_parts (stands_beside cert.schedule p inst) _ got.2 in
     let never : false ≡ true = told (record { count = got.0; at = got.1; facts = both.1 }) in
     absurd cc)
 

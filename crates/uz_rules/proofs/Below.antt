@@ -1,10 +1,6 @@
 -- Tests of numbers, positions, exits and points one by one.
-use Rattle.std.proofs.Common.{◌-◌, ◌<◌, ◌≤◌, ◌≡◌, ℕ, suc, ◌+◌, Bool, true, false, Option, refl, sym, ap, ◌∙◌, arith}
-use Rattle.std.specs.Prelude.{◌&&◌, is_none}
-use Rattle.uz_schedule.specs.declared.lines.EventKind.{EventKind}
-use Rattle.uz_rules.specs.Inside.{all_below}
-use Rattle.uz_rules.specs.EdgeRule.{is_quiet}
-use Rattle.uz_rules.specs.Successors.{any_from}
+use Rattle.uz_rules.proofs.Common.{◌-◌, ◌<◌, ◌≤◌, ◌≡◌, ℕ, suc, ◌+◌, Bool, true, false, Option, refl, sym, ap, ◌∙◌, arith, ◌&&◌, is_none}
+use Rattle.uz_rules.proofs.Common.{EventKind, all_below, is_quiet, any_from}
 use Rattle.uz_rules.proofs.InsideMeets.{below_tells}
 
 pub below_none : (test : ℕ → Bool) → all_below 0 test ≡ true

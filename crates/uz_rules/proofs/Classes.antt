@@ -1,33 +1,11 @@
 -- What an instruction makes of core, memory and what is seen, by class of effect.
-use Rattle.std.proofs.Common.{◌≡◌, ℕ, suc, ◌+◌, ◌<◌, ◌≤◌, Bool, true, false, not, if◌then◌else◌, nat_eq, nat_lt, Option, Some, None, List}
-use Rattle.std.proofs.Common.{[], length, refl, ◌∙◌, subst, arith}
-use Rattle.std.specs.Prelude.{◌&&◌, ◌||◌}
-use Rattle.std.proofs.lemmas.Bool.Decides.{nat_tests}
-use Rattle.std.proofs.lemmas.List.{length-set}
-use Rattle.uz_core.specs.declared.machine.AddressMode.{AddressMode}
-use Rattle.uz_core.specs.declared.machine.AddressMode.TheVariants.{Direct, Displacement, PostIncrement, PreDecrement}
-use Rattle.uz_core.specs.declared.machine.Effect.TheVariants.{Store}
-use Rattle.uz_core.specs.declared.machine.HeldStore.{HeldStore}
-use Rattle.uz_core.specs.Arithmetic.{bit_is_set, with_bit}
-use Rattle.uz_core.specs.Core.{Core, with_pointer_after}
-use Rattle.uz_core.specs.CoreRange.{IsCore}
-use Rattle.uz_core.specs.Timer.{is_timer_address}
-use Rattle.uz_core.specs.Space.{PadWiring, Space, is_pin, after_byte}
-use Rattle.uz_schedule.specs.declared.facts.Val.{Val}
-use Rattle.uz_schedule.specs.declared.header.Head.{Head}
-use Rattle.uz_schedule.specs.declared.lines.EventKind.{EventKind}
-use Rattle.uz_schedule.specs.declared.states.Instance.{Instance}
-use Rattle.uz_transfer.specs.declared.fail.Fail.{Fail}
-use Rattle.uz_transfer.specs.declared.fail.Fail.TheVariants.{Mask}
-use Rattle.uz_transfer.specs.Values.{value_at}
-use Rattle.uz_rules.specs.CoreMeets.{CoreMeets}
-use Rattle.uz_rules.specs.MemoryMeets.{MemoryMeets, HeadFits}
-use Rattle.uz_transfer.specs.Kinds.{is_main, is_handler}
-use Rattle.uz_transfer.specs.Memory.{address_range, with_pointer_range, depth_of}
-use Rattle.uz_transfer.specs.Emission.{emission_at}
-use Rattle.uz_transfer.specs.Refusals.{refuse_if, is_setup_register, top_fails, io_fails, fail_of}
-use Rattle.uz_rules.specs.Meets.{InstanceFits}
-use Rattle.uz_core.proofs.SregBits.{bit_of_with_bit}
+use Rattle.uz_rules.proofs.Common.{flag_fails, mask_fails, may_store, is_single, Ends, depth_limit, ◌≡◌, ℕ, suc, ◌+◌, ◌<◌, ◌≤◌, Bool, true}
+use Rattle.uz_rules.proofs.Common.{false, not, if◌then◌else◌, nat_eq, nat_lt, Option, Some, None, List, [], length, refl, ◌∙◌, subst, arith}
+use Rattle.uz_rules.proofs.Common.{◌&&◌, ◌||◌, nat_tests, length-set, AddressMode, Direct, Store, HeldStore, bit_is_set, with_bit, Core}
+use Rattle.uz_rules.proofs.Common.{with_pointer_after, IsCore, is_timer_address, PadWiring, Space, is_pin, after_byte, Val, Head, EventKind}
+use Rattle.uz_rules.proofs.Common.{Instance, Fail, Mask, value_at, CoreMeets, MemoryMeets, HeadFits, is_main, is_handler, address_range}
+use Rattle.uz_rules.proofs.Common.{with_pointer_range, depth_of, emission_at, refuse_if, is_setup_register, top_fails, io_fails, fail_of}
+use Rattle.uz_rules.proofs.Common.{InstanceFits, bit_of_with_bit, not-false}
 use Rattle.uz_rules.proofs.SpaceStores.{choose_if}
 use Rattle.uz_rules.proofs.StoreClasses.{Leads, MayStore, SetsNothingElse, none_shows, room_left}
 
@@ -50,13 +28,14 @@ pub record Parts {P : Type 0} (w : PadWiring P) (head : Head) (inst r : Instance
   pub enabled : bit_is_set core.sreg 7 ≡ is_main inst.kind
   pub leads : Leads w head r o d core.sp calls s emitted
 
+-- where the kind may push n more bytes, so many addresses are free
+pub room_for : {P : Type 0} (head : Head) (inst : Instance) (o : Core) (d : ℕ) (core : Core) (s : Space P) → Before head inst o d core s
+    → (n : ℕ) → depth_of inst + n ≤ depth_limit head inst.kind → head.lo + n ≤ suc core.sp
+room_for head inst o d core s b n few = room_left head inst.kind d core.sp (depth_of inst) n b.fits b.few b.memory.depth few
+
 pub low_room : {P : Type 0} (head : Head) (inst : Instance) (o : Core) (d : ℕ) (core : Core) (s : Space P) → Before head inst o d core s
     → head.lo ≤ suc core.sp
-low_room head inst o d core s b = omega (
-  arith,
-  room_left head inst.kind d core.sp (depth_of inst) 0 b.fits b.few b.memory.depth
-      (omega (arith, b.limits.depth)),
-)
+low_room head inst o d core s b = omega (arith, room_for head inst o d core s b 0 (omega (arith, b.limits.depth)))
 
 -- memory of another instance with the same stack and cells
 pub memory_same : (head : Head) (a b : Instance) (o : Core) (d sp tp : ℕ) (xs ys : List ℕ) → a.kind ≡ b.kind → a.stack ≡ b.stack
@@ -81,35 +60,15 @@ quiet w head inst r o d old core s t h en m k p c q e = record {
 
 -- Pointers leave all but registers and pairs
 
-pub pointer_sp : (mode : AddressMode) (at : ℕ) (core : Core) → (with_pointer_after mode at core).sp ≡ core.sp
-pointer_sp (Direct k) at core = refl
-pointer_sp (Displacement p q) at core = refl
-pointer_sp (PostIncrement p) at core = refl
-pointer_sp (PreDecrement p) at core = refl
+pub pointer_core : (mode : AddressMode) (at : ℕ) (core : Core)
+    → ((with_pointer_after mode at core).sp ≡ core.sp) × ((with_pointer_after mode at core).sreg ≡ core.sreg)
+pointer_core (Direct k) at core = (refl, refl)
+pointer_core mode at core = (refl, refl)
 
-pub pointer_sreg : (mode : AddressMode) (at : ℕ) (core : Core) → (with_pointer_after mode at core).sreg ≡ core.sreg
-pointer_sreg (Direct k) at core = refl
-pointer_sreg (Displacement p q) at core = refl
-pointer_sreg (PostIncrement p) at core = refl
-pointer_sreg (PreDecrement p) at core = refl
-
-pub pointer_stack : (mode : AddressMode) (old now : Instance) → now.stack ≡ (with_pointer_range mode old now).stack
-pointer_stack (Direct k) old now = refl
-pointer_stack (Displacement p q) old now = refl
-pointer_stack (PostIncrement p) old now = refl
-pointer_stack (PreDecrement p) old now = refl
-
-pub pointer_cells : (mode : AddressMode) (old now : Instance) → now.cells ≡ (with_pointer_range mode old now).cells
-pointer_cells (Direct k) old now = refl
-pointer_cells (Displacement p q) old now = refl
-pointer_cells (PostIncrement p) old now = refl
-pointer_cells (PreDecrement p) old now = refl
-
-pub pointer_kind : (mode : AddressMode) (old now : Instance) → now.kind ≡ (with_pointer_range mode old now).kind
-pointer_kind (Direct k) old now = refl
-pointer_kind (Displacement p q) old now = refl
-pointer_kind (PostIncrement p) old now = refl
-pointer_kind (PreDecrement p) old now = refl
+pub pointer_rest : (mode : AddressMode) (old now : Instance) → (now.kind ≡ (with_pointer_range mode old now).kind)
+    × (now.stack ≡ (with_pointer_range mode old now).stack) × (now.cells ≡ (with_pointer_range mode old now).cells)
+pointer_rest (Direct k) old now = (refl, refl, refl)
+pointer_rest mode old now = (refl, refl, refl)
 
 -- I after it is written
 
@@ -132,16 +91,9 @@ pub unless_none : (b : Bool) (why : Fail) (later : Option Fail) → refuse_if b 
 unless_none true why later e = absurd cc
 unless_none false why later e = (refl, e)
 
-pub none_is : (emitted : Option EventKind) → Some None ≡ Some emitted → emitted ≡ None
-none_is emitted e = cc
-
 pub single_fails : (t b : Bool) → (t && b) ≡ false → t ≡ true → b ≡ false
 single_fails true b e q = e
 single_fails false b e q = absurd cc
-
-pub not_false : (t : Bool) → not t ≡ false → t ≡ true
-not_false true e = refl
-not_false false e = absurd cc
 
 -- what a store's address tells that isn't refused as Io: a register that sets up the machine it is at OCR1A alone. A handler's store to
 -- OCR1AL gives what is known, and others don't store there
@@ -162,18 +114,31 @@ io_fine inst at v e = by_case (nat_eq at 0x88) (nat_eq at 0x89) (is_handler inst
     by_case false false true low high handler e = record { setup = λ a b. e; low = λ t. absurd cc }
     by_case false false false low high handler e = record { setup = λ a b. e; low = λ t. absurd cc }
 
+-- the refusals of a store that don't stand
+pub record StoreFacts (head : Head) (inst : Instance) (a : Ends) (v : Val) : Type 0 where
+  pub flag : (is_single a && flag_fails inst.kind a.lo v) ≡ false
+  pub mask : (is_single a && mask_fails inst.kind a.lo v) ≡ false
+  pub may : not (may_store head inst.kind a v) ≡ false
+  pub io : (is_single a && io_fails inst a.lo v) ≡ false
+
+pub facts_of : (head : Head) (inst : Instance) (to : AddressMode) (r : ℕ) → fail_of head (Store to r) inst ≡ None → StoreFacts head inst
+    (address_range to inst) (value_at inst.regs r)
+facts_of head inst to r fail =
+    let one = unless_none _ _ _ fail in
+    let two = unless_none _ _ _ one.1 in
+    let three = unless_none _ _ _ two.1 in
+    let four = unless_none _ _ _ three.1 in
+    record { flag = one.0; mask = two.0; may = three.0; io = four.0 }
+
 pub may_be_stored : (head : Head) (inst : Instance) (level : ℕ) (to : AddressMode) (r : ℕ) (emitted : Option EventKind)
     → fail_of head (Store to r) inst ≡ None → emission_at level (Store to r) inst ≡ Some emitted → MayStore head inst level
     (address_range to inst) (value_at inst.regs r) emitted
 may_be_stored head inst level to r emitted e f =
-    let one = unless_none _ _ _ e in
-    let two = unless_none _ _ _ one.1 in
-    let three = unless_none _ _ _ two.1 in
-    let four = unless_none _ _ _ three.1 in
+    let facts = facts_of head inst to r e in
     record {
-      mask = λ t. single_fails _ _ two.0 t;
-      may = not_false _ three.0;
-      io = λ t. (io_fine inst (address_range to inst).lo (value_at inst.regs r) (single_fails _ _ four.0 t)).setup;
+      mask = single_fails _ _ facts.mask;
+      may = not-false _ facts.may;
+      io = λ t. (io_fine inst (address_range to inst).lo (value_at inst.regs r) (single_fails _ _ facts.io t)).setup;
       emits = f;
     }
 

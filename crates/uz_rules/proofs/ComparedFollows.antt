@@ -1,62 +1,30 @@
 -- What is known of the last comparison or result after an effect holds of the core after it.
-use Rattle.std.proofs.Common.{◌≡◌, ℕ, ◌+◌, ◌%◌, ◌<◌, ◌≤◌, Bool, true, false, ◌||◌, Option, Some, None, List, [], ◌∷◌}
-use Rattle.std.proofs.Common.{zero, suc, fold, if◌then◌else◌, nat_eq, nat_le, nat_lt, refl, sym, subst, arith}
-use Rattle.std.specs.Prelude.{slice_index, ◌&&◌}
-use Rattle.std.specs.FinMap.{FinMap}
-use Rattle.std.specs.Ordering.{nat_cmp}
-use Rattle.std.proofs.lemmas.Bool.Decides.{nat_tests}
-use Rattle.uz_hex.specs.Cells.{byte_or_255}
-use Rattle.uz_core.specs.declared.machine.AddressMode.{AddressMode}
-use Rattle.uz_core.specs.declared.machine.AddressMode.TheVariants.{Direct, Displacement, PostIncrement, PreDecrement}
-use Rattle.uz_core.specs.declared.machine.BinaryOp.{BinaryOp}
-use Rattle.uz_core.specs.declared.machine.BinaryOp.TheVariants as binary
-use Rattle.uz_core.specs.declared.machine.Effect.{Effect}
-use Rattle.uz_core.specs.declared.machine.Effect.TheVariants.{NoOperation, CopyByte, CopyPair, Binary, Unary, AddToPair, Multiply, Load}
-use Rattle.uz_core.specs.declared.machine.Effect.TheVariants.{Store, PushByte, PopByte, LoadProgram, WriteIoBit, WriteFlag, LoadBit}
-use Rattle.uz_core.specs.declared.machine.Effect.TheVariants.{StoreBit, Branch, SkipIf, Jump, Return, Stop}
-use Rattle.uz_core.specs.declared.machine.HeldStore.TheVariants as held
-use Rattle.uz_core.specs.declared.machine.Operand.{Operand}
+use Rattle.uz_rules.proofs.Common.{only, ◌≡◌, ℕ, ◌+◌, ◌%◌, ◌<◌, ◌≤◌, Bool, true, false, ◌||◌, Option, Some, None, List, [], ◌∷◌, suc, fold}
+use Rattle.uz_rules.proofs.Common.{if◌then◌else◌, nat_eq, nat_le, nat_lt, refl, sym, subst, arith, slice_index, ◌&&◌, FinMap, nat_cmp}
+use Rattle.uz_rules.proofs.Common.{nat_tests, byte_or_255, AddressMode, PostIncrement, PreDecrement, BinaryOp, Effect, CopyByte, CopyPair}
+use Rattle.uz_rules.proofs.Common.{Binary, Unary, AddToPair, Multiply, Load, Store, PushByte, PopByte, LoadProgram, WriteFlag, LoadBit}
+use Rattle.uz_rules.proofs.Common.{StoreBit, Jump, Return, Operand, UnaryOp, bit_is_set, difference_of, flags_none, merged_sreg, with_bit}
+use Rattle.uz_rules.proofs.Common.{Core, register, pair, operand_value, with_register, with_pair, with_flags, with_sp, binary_result}
+use Rattle.uz_rules.proofs.Common.{unary_result, changed_core, effective_address, with_pointer_after, is_core_address, with_store, IsCore}
+use Rattle.uz_rules.proofs.Common.{OperandFits, EffectFits, bit_of_merged, Ends, Compared, Nothing, Val, Head, EventKind, Instance}
+use Rattle.uz_rules.proofs.Common.{is_single, IsWithin, told_after, knows_comparisons, compared_after, emission_at, cell_place, cell_range}
+use Rattle.uz_rules.proofs.Common.{misses, address_range, cell_admits, fail_of, span_of, value_at, exact_pair, ComparedHolds, CoreMeets}
+use Rattle.uz_rules.proofs.Common.{HeadFits, and_parts, unless_named, unless_pair_named}
+use Rattle.uz_rules.proofs.CoreKeeps.{within_span}
+use Rattle.uz_transfer.specs.Compared.{past_pointer, may_be_sreg, told_by, unary_told}
 use Rattle.uz_core.specs.declared.machine.Operand.TheVariants.{Register, Constant}
-use Rattle.uz_core.specs.declared.machine.UnaryOp.{UnaryOp}
-use Rattle.uz_core.specs.declared.machine.UnaryOp.TheVariants as unary
-use Rattle.uz_core.specs.Arithmetic.{bit_is_set, difference_of, flags_none, merged_sreg, with_bit}
-use Rattle.uz_core.specs.Core.{Core, register, pair, operand_value, with_register, with_pair, with_flags, with_sp, binary_result, unary_result}
-use Rattle.uz_core.specs.Core.{changed_core, effective_address, with_pointer_after, is_core_address, with_store}
-use Rattle.uz_core.specs.CoreRange.{IsCore}
-use Rattle.uz_core.specs.OperandRanges.{OperandFits, EffectFits}
-use Rattle.uz_core.proofs.SregBits.{bit_of_merged}
-use Rattle.uz_schedule.specs.Ends.{Ends}
-use Rattle.uz_schedule.specs.declared.facts.Compared.{Compared}
-use Rattle.uz_schedule.specs.declared.facts.Compared.TheVariants.{Nothing}
-use Rattle.uz_schedule.specs.declared.facts.Val.{Val}
-use Rattle.uz_schedule.specs.declared.header.Head.{Head}
-use Rattle.uz_schedule.specs.declared.lines.EventKind.{EventKind}
-use Rattle.uz_schedule.specs.declared.states.Instance.{Instance}
-use Rattle.uz_range.specs.Answers.{is_single}
-use Rattle.uz_range.specs.Containment.{IsWithin}
-use Rattle.uz_transfer.specs.Compared.{unless_named, unless_pair_named, past_pointer, may_be_sreg, told_by, unary_told, told_after, knows_comparisons, compared_after}
-use Rattle.uz_transfer.specs.Emission.{emission_at}
-use Rattle.uz_transfer.specs.Kinds.{cell_place, cell_range, misses}
-use Rattle.uz_transfer.specs.Memory.{address_range}
-use Rattle.uz_transfer.specs.Refusals.{cell_admits, fail_of}
-use Rattle.uz_transfer.specs.Values.{span_of, value_at, exact_pair}
-use Rattle.uz_rules.specs.ComparedHolds.{ComparedHolds}
-use Rattle.uz_rules.specs.CoreMeets.{CoreMeets}
-use Rattle.uz_rules.specs.MemoryMeets.{HeadFits}
 use Rattle.uz_rules.proofs.Classes.{may_be_stored}
-use Rattle.uz_rules.proofs.ComparedLaws.{compare_tells, chain_tells, subtract_tells, borrow_tells, value_tells, compared_stays, compared_same}
-use Rattle.uz_rules.proofs.ComparedLaws.{register_left, pair_register_left}
-use Rattle.uz_rules.proofs.CoreKeeps.{in_span, register_byte}
+use Rattle.uz_rules.proofs.ComparedLaws.{compare_tells, chain_tells, subtract_tells, borrow_tells, value_tells, compared_stays}
+use Rattle.uz_rules.proofs.ComparedLaws.{compared_same, register_left, pair_register_left}
 use Rattle.uz_rules.proofs.CoreSteps.{address_holds, exact_holds}
 use Rattle.uz_rules.proofs.LoadClasses.{ram_not_core}
 use Rattle.uz_rules.proofs.PairResults.{pair_subtract_tells}
 use Rattle.uz_rules.proofs.StoreClasses.{MayStore, SetsNothingElse, not_core, cell_taken, free_by}
+use Rattle.uz_core.specs.declared.machine.BinaryOp.TheVariants as binary
+use Rattle.uz_core.specs.declared.machine.HeldStore.TheVariants as held
+use Rattle.uz_core.specs.declared.machine.UnaryOp.TheVariants as unary
 
 -- Operations on bytes
-
-within_span : (inst : Instance) (o s : Core) (d : ℕ) → IsCore s → d < 32 → CoreMeets inst o s
-    → IsWithin (register s d) (span_of (value_at inst.regs d))
-within_span inst o s d c hd meets = in_span (value_at inst.regs d) o (register s d) (register_byte s d c) (meets.regs d hd)
 
 binary_holds : (op : BinaryOp) (d : ℕ) (source : Operand) (compare : Bool) (inst : Instance) (o s : Core) → IsCore s → d < 32
     → OperandFits source → CoreMeets inst o s → ComparedHolds inst.compared s
@@ -71,20 +39,11 @@ binary_holds (binary.Subtract true) d source true inst o s c hd fits meets h = c
 binary_holds (binary.Subtract true) d (Constant k) false inst o s c hd fits meets h =
     borrow_tells d k (span_of (value_at inst.regs d)) inst.compared s c hd fits (within_span inst o s d c hd meets) h
 binary_holds (binary.Subtract true) d (Register r) false inst o s c hd fits meets h = tt
-binary_holds (binary.Add carry) d source true inst o s c hd fits meets h = tt
-binary_holds binary.And d source true inst o s c hd fits meets h = tt
-binary_holds binary.Or d source true inst o s c hd fits meets h = tt
-binary_holds binary.Xor d source true inst o s c hd fits meets h = tt
-binary_holds (binary.Add false) d source false inst o s c hd fits meets h =
-    value_tells (binary_result (binary.Add false) (register s d) (operand_value source s) s.sreg) d s c hd refl refl
+binary_holds op d source true inst o s c hd fits meets h = tt
 binary_holds (binary.Add true) d source false inst o s c hd fits meets h =
     value_tells (binary_result (binary.Add true) (register s d) (operand_value source s) s.sreg) d s c hd refl refl
-binary_holds binary.And d source false inst o s c hd fits meets h =
-    value_tells (binary_result binary.And (register s d) (operand_value source s) s.sreg) d s c hd refl refl
-binary_holds binary.Or d source false inst o s c hd fits meets h =
-    value_tells (binary_result binary.Or (register s d) (operand_value source s) s.sreg) d s c hd refl refl
-binary_holds binary.Xor d source false inst o s c hd fits meets h =
-    value_tells (binary_result binary.Xor (register s d) (operand_value source s) s.sreg) d s c hd refl refl
+binary_holds op d source false inst o s c hd fits meets h =
+    value_tells (binary_result op (register s d) (operand_value source s) s.sreg) d s c hd refl refl
 
 unary_holds : (op : UnaryOp) (d : ℕ) (old : Compared) (s : Core) → IsCore s → d < 32 → ComparedHolds old s
     → ComparedHolds (unary_told op d old)
@@ -95,39 +54,19 @@ unary_holds unary.Swap d old s c hd h =
     (λ q w named. refl) (register_left d r.value old s h)
   where
     flag_kept : (sreg k : ℕ) → k < 5 → bit_is_set (merged_sreg flags_none sreg) k ≡ bit_is_set sreg k
-    flag_kept sreg zero few = bit_of_merged flags_none sreg 0
-    flag_kept sreg (suc zero) few = bit_of_merged flags_none sreg 1
-    flag_kept sreg (suc (suc zero)) few = bit_of_merged flags_none sreg 2
-    flag_kept sreg (suc (suc (suc zero))) few = bit_of_merged flags_none sreg 3
-    flag_kept sreg (suc (suc (suc (suc zero)))) few = bit_of_merged flags_none sreg 4
     flag_kept sreg (suc (suc (suc (suc (suc k))))) few = absurd (omega arith)
-unary_holds unary.Complement d old s c hd h = value_tells (unary_result unary.Complement (register s d) s.sreg) d s c hd refl refl
-unary_holds unary.Negate d old s c hd h = value_tells (unary_result unary.Negate (register s d) s.sreg) d s c hd refl refl
-unary_holds unary.Increment d old s c hd h = value_tells (unary_result unary.Increment (register s d) s.sreg) d s c hd refl refl
-unary_holds unary.Decrement d old s c hd h = value_tells (unary_result unary.Decrement (register s d) s.sreg) d s c hd refl refl
-unary_holds unary.ArithmeticShiftRight d old s c hd h =
-    value_tells (unary_result unary.ArithmeticShiftRight (register s d) s.sreg) d s c hd refl refl
-unary_holds unary.LogicalShiftRight d old s c hd h =
-    value_tells (unary_result unary.LogicalShiftRight (register s d) s.sreg) d s c hd refl refl
-unary_holds unary.RotateRight d old s c hd h = value_tells (unary_result unary.RotateRight (register s d) s.sreg) d s c hd refl refl
+    flag_kept sreg k few = bit_of_merged flags_none sreg k
+unary_holds op d old s c hd h = value_tells (unary_result op (register s d) s.sreg) d s c hd refl refl
 
 -- Pointers
 
 pointer_left : (mode : AddressMode) (at : ℕ) (old : Compared) (s : Core) → ComparedHolds old s
     → ComparedHolds (past_pointer mode old) (with_pointer_after mode at s)
-pointer_left (Direct k) at old s h = h
-pointer_left (Displacement p q) at old s h = h
 pointer_left (PostIncrement p) at old s h = pair_register_left p ((at + 1) % 65536) old s h
 pointer_left (PreDecrement p) at old s h = pair_register_left p at old s h
+pointer_left mode at old s h = h
 
 -- Stores
-
-and_true : (a b : Bool) → (a && b) ≡ true → (a ≡ true) × (b ≡ true)
-and_true true b e = (refl, e)
-and_true false b e = absurd cc
-
-single_at : (a : Ends) (at : ℕ) → is_single a ≡ true → IsWithin at a → a.lo ≡ at
-single_at a at e within = let same : a.lo ≡ a.hi = grind (arith, nat_tests) in omega (arith, same, within.above, within.below)
 
 not_sreg : (a : Ends) (at : ℕ) → may_be_sreg a ≡ false → IsWithin at a → nat_eq at 0x5F ≡ false
 not_sreg a at e within = let low = within.above in let high = within.below in by_case (nat_eq at 0x5F) refl
@@ -149,16 +88,16 @@ store_outside head inst level at a v emitted fits within apart may =
   where
     io : (is_single a && (nat_le 0x20 a.lo && nat_le a.lo 0xFF)) ≡ true → is_core_address at ≡ false
     io e =
-        let one = and_true (is_single a) _ e in
-        let both = and_true (nat_le 0x20 a.lo) (nat_le a.lo 0xFF) one.1 in
-        let is : a.lo ≡ at = single_at a at one.0 within in
+        let one = and_parts (is_single a) _ e in
+        let both = and_parts (nat_le 0x20 a.lo) (nat_le a.lo 0xFF) one.1 in
+        let is : a.lo ≡ at = only a at one.0 within in
         let low : 0x20 ≤ a.lo = (let t = both.0 in grind (arith, nat_tests)) in
         not_core at (omega (arith, is, low)) (subst SetsNothingElse is (may.io one.0)) (not_sreg a at apart within)
 
     cell : (is_single a && cell_admits (cell_place head inst.kind a.lo) (cell_range head a.lo) (span_of v)) ≡ true → is_core_address at ≡ false
     cell e =
-        let one = and_true (is_single a) _ e in
-        let is : a.lo ≡ at = single_at a at one.0 within in
+        let one = and_parts (is_single a) _ e in
+        let is : a.lo ≡ at = only a at one.0 within in
         let taken = cell_taken head inst.kind a.lo (span_of v) one.1 in
         ram_not_core at (omega (arith, is, (fits.cells_ram a.lo taken.range taken.is).0))
 
@@ -198,56 +137,42 @@ store_holds to r level head inst o s emitted heads c fits meets fine emits h = b
 
 -- All effects
 
-pub told_holds : (e : Effect) (level : ℕ) (head : Head) (image : FinMap nat_cmp ℕ) (words : ℕ) (loaded : List ℕ) (inst : Instance)
-    (o s : Core) (emitted : Option EventKind) → EffectFits e → HeadFits head → IsCore s → CoreMeets inst o s → fail_of head e inst ≡ None
-    → emission_at level e inst ≡ Some emitted → ComparedHolds inst.compared s
-    → ComparedHolds (told_after e inst) (changed_core e image words loaded s)
-told_holds (CopyByte d source) level head image words loaded inst o s emitted fits heads c meets fine emits h =
-    register_left d (operand_value source s) inst.compared s h
-told_holds (CopyPair d r) level head image words loaded inst o s emitted fits heads c meets fine emits h =
-    pair_register_left d (pair s r) inst.compared s h
-told_holds (Binary op d source compare) level head image words loaded inst o s emitted fits heads c meets fine emits h =
-    binary_holds op d source compare inst o s c fits.0 fits.1 meets h
-told_holds (Unary op d) level head image words loaded inst o s emitted fits heads c meets fine emits h =
-    unary_holds op d inst.compared s c fits h
-told_holds (AddToPair d k true) level head image words loaded inst o s emitted fits heads c meets fine emits h =
-    pair_subtract_tells d k (exact_pair inst d) s c fits.0.1.0 fits.1 (exact_holds inst o s d c meets fits.0.1.0)
-told_holds (AddToPair d k false) level head image words loaded inst o s emitted fits heads c meets fine emits h = tt
-told_holds (Multiply d r d_signed r_signed shifted) level head image words loaded inst o s emitted fits heads c meets fine emits h = tt
-told_holds (Load d from) level head image words loaded inst o s emitted fits heads c meets fine emits h =
-    register_left d (slice_index loaded 0) (past_pointer from inst.compared) (with_pointer_after from (effective_address from s) s)
-    (pointer_left from (effective_address from s) inst.compared s h)
-told_holds (Store to r) level head image words loaded inst o s emitted fits heads c meets fine emits h =
-    store_holds to r level head inst o s emitted heads c fits meets fine emits h
-told_holds (PushByte r) level head image words loaded inst o s emitted fits heads c meets fine emits h = tt
-told_holds (PopByte d) level head image words loaded inst o s emitted fits heads c meets fine emits h =
-    register_left d (slice_index loaded 0) inst.compared (with_sp ((s.sp + 1) % 65536) s)
-    (compared_same inst.compared s (with_sp ((s.sp + 1) % 65536) s) refl refl h)
-told_holds (LoadProgram d true) level head image words loaded inst o s emitted fits heads c meets fine emits h =
-    register_left d (byte_or_255 image (pair s 30)) (unless_pair_named 30 inst.compared) (with_pair 30 ((pair s 30 + 1) % 65536) s)
-    (pair_register_left 30 ((pair s 30 + 1) % 65536) inst.compared s h)
-told_holds (LoadProgram d false) level head image words loaded inst o s emitted fits heads c meets fine emits h =
-    register_left d (byte_or_255 image (pair s 30)) inst.compared s h
-told_holds (WriteIoBit at b set) level head image words loaded inst o s emitted fits heads c meets fine emits h = h
-told_holds (WriteFlag flag set) level head image words loaded inst o s emitted fits heads c meets fine emits h = tt
-told_holds (LoadBit d b) level head image words loaded inst o s emitted fits heads c meets fine emits h =
-    register_left d (with_bit b (bit_is_set s.sreg 6) (register s d)) inst.compared s h
-told_holds (StoreBit d b) level head image words loaded inst o s emitted fits heads c meets fine emits h = tt
-told_holds (Branch flag set offset) level head image words loaded inst o s emitted fits heads c meets fine emits h = h
-told_holds (SkipIf test) level head image words loaded inst o s emitted fits heads c meets fine emits h = h
-told_holds (Jump target true) level head image words loaded inst o s emitted fits heads c meets fine emits h = tt
-told_holds (Jump target false) level head image words loaded inst o s emitted fits heads c meets fine emits h = h
-told_holds (Return from_interrupt) level head image words loaded inst o s emitted fits heads c meets fine emits h = tt
-told_holds NoOperation level head image words loaded inst o s emitted fits heads c meets fine emits h = h
-told_holds Stop level head image words loaded inst o s emitted fits heads c meets fine emits h = h
+module _ (level : ℕ) (head : Head) (image : FinMap nat_cmp ℕ) (words : ℕ) (loaded : List ℕ) (inst : Instance) (o s : Core)
+    (emitted : Option EventKind) (heads : HeadFits head) (c : IsCore s) (meets : CoreMeets inst o s)
+    (h : ComparedHolds inst.compared s) where
+  told_holds : (e : Effect) → EffectFits e → fail_of head e inst ≡ None → emission_at level e inst ≡ Some emitted
+      → ComparedHolds (told_after e inst) (changed_core e image words loaded s)
+  told_holds (CopyByte d source) fits fine emits = register_left d (operand_value source s) inst.compared s h
+  told_holds (CopyPair d r) fits fine emits = pair_register_left d (pair s r) inst.compared s h
+  told_holds (Binary op d source compare) fits fine emits = binary_holds op d source compare inst o s c fits.0 fits.1 meets h
+  told_holds (Unary op d) fits fine emits = unary_holds op d inst.compared s c fits h
+  told_holds (AddToPair d k true) fits fine emits =
+      pair_subtract_tells d k (exact_pair inst d) s c fits.0.1.0 fits.1 (exact_holds inst o s d c meets fits.0.1.0)
+  told_holds (AddToPair d k false) fits fine emits = tt
+  told_holds (Multiply d r d_signed r_signed shifted) fits fine emits = tt
+  told_holds (Load d from) fits fine emits =
+      register_left d (slice_index loaded 0) (past_pointer from inst.compared) (with_pointer_after from (effective_address from s) s)
+      (pointer_left from (effective_address from s) inst.compared s h)
+  told_holds (Store to r) fits fine emits = store_holds to r level head inst o s emitted heads c fits meets fine emits h
+  told_holds (PushByte r) fits fine emits = tt
+  told_holds (PopByte d) fits fine emits =
+      register_left d (slice_index loaded 0) inst.compared (with_sp ((s.sp + 1) % 65536) s)
+      (compared_same inst.compared s (with_sp ((s.sp + 1) % 65536) s) refl refl h)
+  told_holds (LoadProgram d true) fits fine emits =
+      register_left d (byte_or_255 image (pair s 30)) (unless_pair_named 30 inst.compared) (with_pair 30 ((pair s 30 + 1) % 65536) s)
+      (pair_register_left 30 ((pair s 30 + 1) % 65536) inst.compared s h)
+  told_holds (LoadProgram d false) fits fine emits = register_left d (byte_or_255 image (pair s 30)) inst.compared s h
+  told_holds (WriteFlag flag set) fits fine emits = tt
+  told_holds (LoadBit d b) fits fine emits = register_left d (with_bit b (bit_is_set s.sreg 6) (register s d)) inst.compared s h
+  told_holds (StoreBit d b) fits fine emits = tt
+  told_holds (Jump target true) fits fine emits = tt
+  told_holds (Return from_interrupt) fits fine emits = tt
+  told_holds e fits fine emits = h
 
-pub compared_holds : (e : Effect) (level : ℕ) (head : Head) (image : FinMap nat_cmp ℕ) (words : ℕ) (loaded : List ℕ) (inst : Instance)
-    (o s : Core) (emitted : Option EventKind) → EffectFits e → HeadFits head → IsCore s → CoreMeets inst o s → fail_of head e inst ≡ None
-    → emission_at level e inst ≡ Some emitted → ComparedHolds inst.compared s
-    → ComparedHolds (compared_after head e inst) (changed_core e image words loaded s)
-compared_holds e level head image words loaded inst o s emitted fits heads c meets fine emits h =
-    by_case (knows_comparisons head inst.kind)
-  where
-    by_case : (t : Bool) → ComparedHolds (if t then told_after e inst else Nothing) (changed_core e image words loaded s)
-    by_case true = told_holds e level head image words loaded inst o s emitted fits heads c meets fine emits h
-    by_case false = tt
+  pub compared_holds : (e : Effect) → EffectFits e → fail_of head e inst ≡ None → emission_at level e inst ≡ Some emitted
+      → ComparedHolds (compared_after head e inst) (changed_core e image words loaded s)
+  compared_holds e fits fine emits = by_case (knows_comparisons head inst.kind)
+    where
+      by_case : (t : Bool) → ComparedHolds (if t then told_after e inst else Nothing) (changed_core e image words loaded s)
+      by_case true = told_holds e fits fine emits
+      by_case false = tt

@@ -1,25 +1,15 @@
 -- What sets what is known of the last comparison or result, and what keeps it.
-use Rattle.std.proofs.Common.{◌≡◌, ℕ, ◌+◌, ◌-◌, ◌*◌, ◌/◌, ◌%◌, ◌<◌, Bool, true, false, ◌||◌, Some, None, nat_eq, nat_lt}
-use Rattle.std.proofs.Common.{if◌then◌else◌, nat_le, refl, sym, ap, ◌∙◌, subst, arith}
-use Rattle.std.specs.Prelude.{slice_index_or}
-use Rattle.std.proofs.lemmas.Bool.Decides.{nat_tests}
-use Rattle.uz_core.specs.declared.machine.Operand.{Operand}
-use Rattle.uz_core.specs.declared.machine.Operand.TheVariants as operand
-use Rattle.uz_core.specs.Arithmetic.{AluResult, bit_is_set, difference_of, chained_result, merged_sreg}
-use Rattle.uz_core.specs.Core.{Core, register, pair, operand_value, with_register, with_pair, with_flags}
-use Rattle.uz_core.specs.CoreRange.{IsCore}
-use Rattle.uz_core.specs.OperandRanges.{OperandFits}
-use Rattle.uz_core.proofs.SregBits.{bit_of_merged, or_kept}
-use Rattle.uz_schedule.specs.Ends.{Ends, hull}
-use Rattle.uz_schedule.specs.declared.facts.Against.{Against}
-use Rattle.uz_schedule.specs.declared.facts.Against.TheVariants.{Register, Constant}
-use Rattle.uz_schedule.specs.declared.facts.Compared.{Compared}
-use Rattle.uz_schedule.specs.declared.facts.Compared.TheVariants.{Nothing, Byte, Pair, Result, PairResult, Value}
-use Rattle.uz_range.specs.Containment.{IsWithin}
+use Rattle.uz_rules.proofs.Common.{eqb-true, eq-eqb, or_left, ◌≡◌, ℕ, ◌+◌, ◌-◌, ◌*◌, ◌/◌, ◌%◌, ◌<◌, Bool, true, false, Some, None, nat_eq}
+use Rattle.uz_rules.proofs.Common.{nat_lt, if◌then◌else◌, nat_le, refl, sym, ap, ◌∙◌, subst, arith, slice_index_or, Operand, AluResult}
+use Rattle.uz_rules.proofs.Common.{bit_is_set, difference_of, chained_result, merged_sreg, Core, register, pair, operand_value}
+use Rattle.uz_rules.proofs.Common.{with_register, with_pair, with_flags, IsCore, OperandFits, bit_of_merged, or_kept, Ends, hull, Against}
+use Rattle.uz_rules.proofs.Common.{Register, Constant, Compared, Nothing, Pair, Result, PairResult, Value, IsWithin, FlagsAre}
+use Rattle.uz_rules.proofs.Common.{against_value, AgainstFits, ComparedHolds, or_right, unless_named, unless_pair_named}
 use Rattle.uz_range.specs.Flags.{flag_after, byte_flag, pair_flag, difference_value}
-use Rattle.uz_transfer.specs.Compared.{is_operand, names, unless_named, unless_pair_named, against_operand, chained, borrowed}
-use Rattle.uz_rules.specs.ComparedHolds.{FlagsAre, against_value, AgainstFits, ComparedHolds}
+use Rattle.uz_transfer.specs.Compared.{is_operand, names, against_operand, chained, borrowed}
+use Rattle.uz_schedule.specs.declared.facts.Compared.TheVariants.{Byte}
 use Rattle.uz_rules.proofs.CoreKeeps.{set_same, set_other, register_byte}
+use Rattle.uz_core.specs.declared.machine.Operand.TheVariants as operand
 
 -- What sets it
 
@@ -44,9 +34,6 @@ chained_are x y xh yh sreg wx wy h =
     rw ((parts x xh wx).0, (parts y yh wy).0, (parts x xh wx).1, (parts y yh wy).1, h 0 _ (omega arith) refl, h 1 _ (omega arith) refl)
     (merged_are (chained_result (difference_of xh yh (nat_lt x (y + 0))) (nat_eq ((x + 512 - (y + 0)) % 256) 0)) sreg)
 
-same_number : (a b : ℕ) → nat_eq a b ≡ true → a ≡ b
-same_number a b e = grind (arith, nat_tests)
-
 against_byte : (source : Against) (s : Core) → IsCore s → AgainstFits source → against_value source s < 256
 against_byte (Register r) s c fits = register_byte s r c
 against_byte (Constant k) s c fits = fits
@@ -65,7 +52,7 @@ chain_tells next (operand.Register r) (Byte d low) s c hn hr (hd, fits, h) = by_
         (with_flags (chained_result (difference_of (register s next) (register s r) (bit_is_set s.sreg 0)) (bit_is_set s.sreg 1)) s)
     by_case false e = tt
     by_case true e =
-        let is : next ≡ d + 1 = same_number next (d + 1) e in (
+        let is : next ≡ d + 1 = eqb-true next (d + 1) e in (
           omega (arith, is, hn),
           fits,
           hr,
@@ -78,12 +65,7 @@ chain_tells next (operand.Register r) (Byte d low) s c hn hr (hd, fits, h) = by_
               (chained_are (register s d) (against_value low s) (register s (d + 1)) (register s r) s.sreg (register_byte s d c)
               (against_byte low s c fits) h)),
         )
-chain_tells next (operand.Constant k) c s core hn hr h = tt
-chain_tells next (operand.Register r) Nothing s core hn hr h = tt
-chain_tells next (operand.Register r) (Pair d low high) s core hn hr h = tt
-chain_tells next (operand.Register r) (Result d k old) s core hn hr h = tt
-chain_tells next (operand.Register r) (PairResult d k old) s core hn hr h = tt
-chain_tells next (operand.Register r) (Value d) s core hn hr h = tt
+chain_tells next source c s core hn hr h = tt
 
 -- SUBI
 pub subtract_tells : (d k : ℕ) (old : Ends) (s : Core) → IsCore s → d < 32 → k < 256 → IsWithin (register s d) old
@@ -102,10 +84,6 @@ subtract_tells d k old s c hd hk hx = (
 )
 
 -- SBCI of the next register
-chained_value : (r : AluResult) (z : Bool) → (chained_result r z).value ≡ r.value
-chained_value r true = refl
-chained_value r false = refl
-
 pair_left : (x k xh kh : ℕ) (sreg : ℕ) → x < 256 → k < 256 → FlagsAre (byte_flag x k) sreg
     → (difference_of x k false).value + 256 * (chained_result (difference_of xh kh (bit_is_set sreg 0)) (bit_is_set sreg 1)).value
     ≡ difference_value (x + 256 * xh) (k + 256 * kh)
@@ -129,7 +107,7 @@ borrow_tells next k now (Result d low old) s c hn hk within (hd, hl, (x, wx, hx,
         (with_flags (result next) (with_register next (result next).value s))
     by_case false e = tt
     by_case true e =
-        let is : next ≡ d + 1 = same_number next (d + 1) e in
+        let is : next ≡ d + 1 = eqb-true next (d + 1) e in
         let first : register (with_register next (result next).value s) d ≡ (difference_of x low false).value =
         set_other s.registers next d (result next).value (λ q. omega (arith, q, is)) ∙ v in
         let second : register (with_register next (result next).value s) next ≡ (result next).value =
@@ -148,11 +126,7 @@ borrow_tells next k now (Result d low old) s c hn hk within (hd, hl, (x, wx, hx,
                 (chained_are x low (register s (d + 1)) k s.sreg wx hl h),
           ),
         )
-borrow_tells next k now Nothing s core hn hk within h = tt
-borrow_tells next k now (Byte d source) s core hn hk within h = tt
-borrow_tells next k now (Pair d low high) s core hn hk within h = tt
-borrow_tells next k now (PairResult d low old) s core hn hk within h = tt
-borrow_tells next k now (Value d) s core hn hk within h = tt
+borrow_tells next k now c s core hn hk within h = tt
 
 -- a result whose flags Z and N are its own
 pub value_tells : (r : AluResult) (d : ℕ) (s : Core) → IsCore s → d < 32 → slice_index_or r.flags 1 None ≡ Some (nat_eq r.value 0)
@@ -166,19 +140,9 @@ value_tells r d s c hd z n =
 
 -- What keeps it
 
-eq_itself : (q : ℕ) → nat_eq q q ≡ true
-eq_itself q = grind (arith, nat_tests)
-
-or_first : (a b : Bool) → a ≡ true → (a || b) ≡ true
-or_first a b e = rw e refl
-
-or_second : (a b : Bool) → b ≡ true → (a || b) ≡ true
-or_second true b e = refl
-or_second false b e = e
-
 against_stays : (source : Against) (s t : Core) → AgainstFits source
     → ((q : ℕ) → q < 32 → is_operand source q ≡ true → register t q ≡ register s q) → against_value source t ≡ against_value source s
-against_stays (Register r) s t fits h = h r fits (eq_itself r)
+against_stays (Register r) s t fits h = h r fits (eq-eqb r r refl)
 against_stays (Constant k) s t fits h = refl
 
 -- two status registers have the same C, Z, N, V and S
@@ -206,21 +170,21 @@ compared_stays Nothing s t e h holds = tt
 compared_stays (Byte d source) s t e h (hd, fits, are) = (
   hd,
   fits,
-  flags_same _ _ _ _ _ _ (h d hd (or_first _ _ (eq_itself d)))
-      (against_stays source s t fits (λ q w p. h q w (or_second _ _ p))) e are,
+  flags_same _ _ _ _ _ _ (h d hd (or_left _ _ (eq-eqb d d refl)))
+      (against_stays source s t fits (λ q w p. h q w (or_right _ _ p))) e are,
 )
 compared_stays (Pair d low high) s t e h (hd, fits, hh, are) = (
   hd,
   fits,
   hh,
-  pair_flags_same _ _ _ _ _ _
-      (pair_same _ _ _ _ (h d (omega (arith, hd)) (or_first _ _ (eq_itself d)))
-      (h (d + 1) (omega (arith, hd)) (or_second _ _ (or_first _ _ (eq_itself (d + 1))))))
-      (pair_same _ _ _ _ (against_stays low s t fits (λ q w p. h q w (or_second _ _ (or_second _ _ (or_first _ _ p)))))
-      (h high hh (or_second (nat_eq high d) _ (or_second (nat_eq high (d + 1)) _ (or_second (is_operand low high) _ (eq_itself high)))))) e are,
+  pair_flags_same _ _ _ _ _ _ (pair_same _ _ _ _ (h d (omega (arith, hd)) (or_left _ _ (eq-eqb d d refl)))
+      (h (d + 1) (omega (arith, hd)) (or_right _ _ (or_left _ _ (eq-eqb (d + 1) (d + 1) refl)))))
+      (pair_same _ _ _ _ (against_stays low s t fits (λ q w p. h q w (or_right _ _ (or_right _ _ (or_left _ _ p)))))
+      (h high hh (or_right (nat_eq high d) _ (or_right (nat_eq high (d + 1)) _ (or_right (is_operand low high) _
+      (eq-eqb high high refl)))))) e are,
 )
 compared_stays (Result d k old) s t e h (hd, hk, (x, wx, hx, v, are)) =
-    (hd, hk, (x, wx, hx, h d hd (eq_itself d) ∙ v, flags_same _ _ _ _ _ _ refl refl e are))
+    (hd, hk, (x, wx, hx, h d hd (eq-eqb d d refl) ∙ v, flags_same _ _ _ _ _ _ refl refl e are))
 compared_stays (PairResult d k old) s t e h (hd, hk, (x, wx, hx, v, are)) = (
   hd,
   hk,
@@ -228,15 +192,15 @@ compared_stays (PairResult d k old) s t e h (hd, hk, (x, wx, hx, v, are)) = (
     x,
     wx,
     hx,
-    pair_same _ _ _ _ (h d (omega (arith, hd)) (or_first _ _ (eq_itself d)))
-        (h (d + 1) (omega (arith, hd)) (or_second _ _ (eq_itself (d + 1)))) ∙ v,
+    pair_same _ _ _ _ (h d (omega (arith, hd)) (or_left _ _ (eq-eqb d d refl)))
+        (h (d + 1) (omega (arith, hd)) (or_right _ _ (eq-eqb (d + 1) (d + 1) refl))) ∙ v,
     pair_flags_same _ _ _ _ _ _ refl refl e are,
   ),
 )
 compared_stays (Value d) s t e h (hd, z, n) = (
   hd,
-  e 1 (omega arith) ∙ z ∙ ap (λ v. nat_eq v 0) (sym (h d hd (eq_itself d))),
-  e 2 (omega arith) ∙ n ∙ ap (λ v. nat_le 128 v) (sym (h d hd (eq_itself d))),
+  e 1 (omega arith) ∙ z ∙ ap (λ v. nat_eq v 0) (sym (h d hd (eq-eqb d d refl))),
+  e 2 (omega arith) ∙ n ∙ ap (λ v. nat_le 128 v) (sym (h d hd (eq-eqb d d refl))),
 )
 
 -- where the registers are the same, and the flags

@@ -1,85 +1,38 @@
 -- Containment: the state after an instruction meets the instance at one of the abstract step's exits.
-use Rattle.std.proofs.Common.{◌≡◌, ◌≢◌, inl, inr, ℕ, ◌+◌, ◌-◌, ◌%◌, ◌≤◌, Bool, true, false, not, if◌then◌else◌, nat_eq}
-use Rattle.std.proofs.Common.{nat_le, Option, Some, None, List, [], ◌∷◌, ◌++◌, map, length, refl, sym, ◌∙◌, ap, subst, arith}
-use Rattle.std.specs.Prelude.{slice_index, ◌&&◌, ◌||◌, ◌==◌, Ok}
-use Rattle.std.specs.Ordering.{nat_cmp}
-use Rattle.std.specs.FinMap.{FinMap}
-use Rattle.std.specs.List.{filter_map, AllByRecursion}
-use Rattle.std.proofs.lemmas.Bool.Decides.{nat_tests}
-use Rattle.std.proofs.lemmas.List.{append-nil}
-use Rattle.uz_hex.specs.Cells.{word_of}
-use Rattle.avr_table.specs.declared.Instr.{Instr}
-use Rattle.avr_table.specs.declared.Outcome.{Outcome}
-use Rattle.avr_table.specs.Rows.{Reads, words_of, clocks_of}
-use Rattle.avr_decode.proofs.Unique.{unique}
-use Rattle.uz_core.specs.declared.machine.Edge.{Edge}
-use Rattle.uz_core.specs.declared.machine.EdgeKind.{EdgeKind}
-use Rattle.uz_core.specs.declared.machine.EdgeKind.TheVariants.{Sync as SyncEdge, Pixel as PixelEdge, Sound as SoundEdge, Enter as EnterEdge}
-use Rattle.uz_core.specs.declared.machine.EdgeKind.TheVariants.{Leave as LeaveEdge}
-use Rattle.uz_core.specs.declared.machine.Effect.{Effect}
-use Rattle.uz_core.specs.declared.machine.AddressMode.{AddressMode}
-use Rattle.uz_core.specs.declared.machine.Effect.TheVariants.{NoOperation, Binary, Load, Store, LoadProgram, WriteIoBit, WriteFlag, Jump, Return}
-use Rattle.uz_core.specs.declared.machine.Effect.TheVariants.{Stop}
-use Rattle.uz_core.specs.Arithmetic.{bit_is_set}
-use Rattle.uz_core.specs.Effects.{effect_of}
-use Rattle.uz_core.specs.Core.{Core, following_pc, load_addresses, sample_clock, loaded_bytes, content_after_loads, outcome_of, next_pc}
-use Rattle.uz_core.specs.Core.{changed_core, owes_instruction, returns_from_interrupt, StepResult, effect_result}
-use Rattle.uz_core.specs.Timer.{is_due, is_counting, count_after, matches_within, timer_after}
-use Rattle.uz_core.specs.PadLine.{PadHistory}
-use Rattle.uz_core.specs.Space.{Space, history_wiring, byte_at, space_after, space_loads}
-use Rattle.uz_core.specs.Turn.{State, sync_level, all_edge_kinds, state_after, edges_at, is_entry, after_instruction, instruction_edges}
-use Rattle.uz_core.specs.Turn.{Turn}
-use Rattle.uz_core.specs.StateRange.{IsState}
-use Rattle.uz_core.specs.CoreRange.{IsByte, IsCore}
-use Rattle.uz_core.specs.OperandRanges.{EffectFits}
-use Rattle.uz_core.proofs.EffectRanges.{effect_fits}
-use Rattle.uz_core.proofs.RowClocks.{clocks_within, stops}
-use Rattle.uz_core.proofs.StateKept.{state_kept}
-use Rattle.uz_schedule.specs.Ends.{Ends}
-use Rattle.uz_schedule.specs.declared.facts.Val.{Val}
-use Rattle.uz_range.specs.Answers.{is_single}
-use Rattle.uz_schedule.specs.declared.facts.Compared.TheVariants.{Nothing}
-use Rattle.uz_schedule.specs.declared.kinds.Kind.{Kind}
-use Rattle.uz_schedule.specs.declared.kinds.Kind.TheVariants.{Main, Handler, Alone}
-use Rattle.uz_schedule.specs.declared.header.Head.{Head}
-use Rattle.uz_schedule.specs.declared.lines.EventKind.{EventKind}
-use Rattle.uz_schedule.specs.declared.lines.EventKind.TheVariants.{Sync, Pixel, Sound, Leave}
-use Rattle.uz_schedule.specs.declared.states.Instance.{Instance}
-use Rattle.uz_transfer.specs.declared.fail.Fail.{Fail}
-use Rattle.uz_transfer.specs.declared.fail.Fail.TheVariants.{Mask}
-use Rattle.uz_transfer.specs.Kinds.{cell_place, is_main, is_handler}
-use Rattle.uz_rules.specs.MemoryMeets.{HeadFits, Untouched}
-use Rattle.uz_transfer.specs.Memory.{depth_of, address_range, with_pointer_range, flags_from, with_cell, stored_in}
-use Rattle.uz_transfer.specs.Transfer.{transfer, bit_of_bool}
-use Rattle.uz_transfer.specs.Compared.{compared_after, is_three, told_after}
-use Rattle.uz_transfer.specs.Narrowed.{test_of}
-use Rattle.uz_transfer.specs.Emission.{byte_event, bit_event, level_event, emission, emission_at, level_after}
-use Rattle.uz_transfer.specs.Values.{span_of, value_at, with_flag_list}
-use Rattle.uz_transfer.specs.Refusals.{fail_of}
-use Rattle.uz_rules.specs.Events.{event_of, shown_at, shown, listed}
-use Rattle.uz_rules.proofs.StoreShows.{kinds_listed}
-use Rattle.uz_schedule.specs.Lines.{Lines}
-use Rattle.uz_transfer.specs.Step.{clears_flag, following_of, sampled_of, draft_of, all_exits, step_unless, step_of_row, successor}
-use Rattle.uz_transfer.specs.Step.{IsReadAt}
+use Rattle.uz_rules.proofs.Common.{◌≡◌, ◌≢◌, inl, inr, ℕ, ◌+◌, ◌-◌, ◌%◌, ◌≤◌, Bool, true, false, not, if◌then◌else◌, nat_eq, nat_le, Option}
+use Rattle.uz_rules.proofs.Common.{Some, None, List, [], ◌∷◌, ◌++◌, map, length, refl, sym, ◌∙◌, ap, subst, arith, slice_index, ◌&&◌, ◌||◌}
+use Rattle.uz_rules.proofs.Common.{◌==◌, Ok, nat_cmp, FinMap, filter_map, AllByRecursion, nat_tests, append-nil, word_of, Instr, Outcome}
+use Rattle.uz_rules.proofs.Common.{Reads, words_of, clocks_of, unique, EdgeKind, SyncEdge, PixelEdge, SoundEdge, Effect, Binary, Load}
+use Rattle.uz_rules.proofs.Common.{Store, LoadProgram, WriteIoBit, WriteFlag, Jump, Return, Stop, bit_is_set, effect_of, Core, following_pc}
+use Rattle.uz_rules.proofs.Common.{load_addresses, sample_clock, loaded_bytes, content_after_loads, outcome_of, next_pc, changed_core}
+use Rattle.uz_rules.proofs.Common.{owes_instruction, returns_from_interrupt, StepResult, effect_result, is_due, is_counting, count_after}
+use Rattle.uz_rules.proofs.Common.{matches_within, timer_after, PadHistory, Space, history_wiring, byte_at, space_after, space_loads, State}
+use Rattle.uz_rules.proofs.Common.{sync_level, all_edge_kinds, IsState, IsByte, IsCore, EffectFits, effect_fits, state_kept, Ends, Val}
+use Rattle.uz_rules.proofs.Common.{is_single, Nothing, Kind, Main, Head, EventKind, Sync, Pixel, Sound, Leave, Instance, Mask, cell_place}
+use Rattle.uz_rules.proofs.Common.{is_main, is_handler, HeadFits, Untouched, depth_of, address_range, flags_from, with_cell, stored_in}
+use Rattle.uz_rules.proofs.Common.{transfer, bit_of_bool, compared_after, is_three, told_after, test_of, byte_event, bit_event, level_event}
+use Rattle.uz_rules.proofs.Common.{emission, emission_at, level_after, span_of, value_at, with_flag_list, fail_of, event_of, Lines}
+use Rattle.uz_rules.proofs.Common.{clears_flag, following_of, sampled_of, draft_of, all_exits, step_of_row, successor, IsReadAt, TimerMeets}
+use Rattle.uz_rules.proofs.Common.{TimerCounts, LevelMeets, Meets, InstanceFits, IsNoEntry, main_emits, Exit, Step, MainTimer, OneStep}
+use Rattle.uz_rules.proofs.Common.{InstructionBegins, Contained, AloneContained, MainContained, or_parts, shown_at, shown, listed}
+use Rattle.uz_rules.proofs.Classes.{pointer_rest, facts_of, Before, memory_same, unless_none}
+use Rattle.uz_rules.proofs.AskedLaws.{step_tells, TellsAway, row_tells, exit_meets, asks_none, two_asks_none}
 use Rattle.uz_transfer.specs.InTime.{clock_holds}
-use Rattle.uz_rules.specs.Meets.{TimerMeets, TimerCounts, LevelMeets, Meets, InstanceFits}
-use Rattle.uz_rules.specs.OneStep.{IsNoEntry, MainTimer, OneStep, InstructionBegins, Contained, AloneContained}
-use Rattle.uz_rules.specs.OneStep.{MainContained}
+use Rattle.uz_core.specs.declared.machine.Edge.{Edge}
+use Rattle.uz_core.specs.declared.machine.EdgeKind.TheVariants.{Enter as EnterEdge, Leave as LeaveEdge}
+use Rattle.uz_core.specs.Turn.{state_after, edges_at, is_entry, after_instruction, instruction_edges, Turn}
+use Rattle.uz_core.proofs.RowClocks.{clocks_within, stops}
+use Rattle.uz_rules.proofs.StoreShows.{kinds_listed}
 use Rattle.uz_rules.specs.Versions.{VersionTwoStays}
-use Rattle.uz_transfer.specs.Emission.{main_emits}
-use Rattle.uz_transfer.specs.declared.step.Exit.{Exit}
-use Rattle.uz_transfer.specs.declared.step.Step.{Step}
-use Rattle.uz_rules.proofs.LeavesHold.{stores_leave, facts_of}
+use Rattle.uz_rules.proofs.LeavesHold.{stores_leave}
 use Rattle.uz_rules.proofs.Timing.{loads_beside, stores_beside, later}
 use Rattle.uz_rules.proofs.TopAndTemp.{top_stays}
 use Rattle.uz_rules.proofs.ComparedFollows.{compared_holds}
 use Rattle.uz_rules.proofs.ComparedLaws.{compared_same}
 use Rattle.uz_rules.proofs.CoreSteps.{core_same}
 use Rattle.uz_rules.proofs.LoadClasses.{content_bytes}
-use Rattle.uz_rules.proofs.Classes.{Before, memory_same, unless_none, pointer_kind}
 use Rattle.uz_rules.proofs.ClassParts.{parts_of}
 use Rattle.uz_rules.proofs.ExitsHold.{exit_holds}
-use Rattle.uz_rules.proofs.AskedLaws.{TellsAway, row_tells, exit_meets, asks_none, two_asks_none}
 
 -- Edges and events
 
@@ -102,28 +55,6 @@ edges_calm : (clock : ℕ) (kinds : List EdgeKind) → AllByRecursion IsNoEntry 
 edges_calm clock [] h = tt
 edges_calm clock (k ∷ kinds) h = (h.0, edges_calm clock kinds h.1)
 
--- What a step that isn't refused tells
-
-record Told (refused : Option Fail) (emitted : Option (Option EventKind)) (in_time : Bool) (plan step : Step) : Type 0 where
-  event : Option EventKind
-  fine : refused ≡ None
-  emits : emitted ≡ Some event
-  time : in_time ≡ true
-  is : step ≡ record plan { emit = event }
-
-step_tells : (refused : Option Fail) (emitted : Option (Option EventKind)) (in_time : Bool) (plan step : Step)
-    → step_unless refused emitted in_time plan ≡ Ok step → Told refused emitted in_time plan step
-step_tells (Some why) emitted in_time plan step e = absurd cc
-step_tells None None in_time plan step e = absurd cc
-step_tells None (Some event) false plan step e = absurd cc
-step_tells None (Some event) true plan step e = record {
-  event = event;
-  fine = refl;
-  emits = refl;
-  time = refl;
-  is = (let q : record plan { emit = event } ≡ step = cc in sym q);
-}
-
 -- No instruction is left owed, and it isn't SPM
 
 owes_none : (head : Head) (inst : Instance) (e : Effect) → fail_of head e inst ≡ None → returns_from_interrupt e ≡ false → owes_instruction
@@ -135,12 +66,10 @@ owes_none head inst (WriteFlag flag true) f r = by_case (nat_eq flag 7) (unless_
     by_case false e = refl
 owes_none head inst (WriteFlag flag false) f r = refl
 owes_none head inst (Return t) f r = r
-owes_none head inst NoOperation f r = refl
 owes_none head inst e f r = refl
 
 goes_on_stop : (head : Head) (inst : Instance) (e : Effect) → fail_of head e inst ≡ None → stops e ≡ false
 goes_on_stop head inst Stop f = absurd cc
-goes_on_stop head inst NoOperation f = refl
 goes_on_stop head inst e f = refl
 
 in_four : (t : Bool) (n : ℕ) → t ≡ false → (t || (nat_le 1 n && nat_le n 4)) ≡ true → (1 ≤ n) × (n ≤ 4)
@@ -149,34 +78,25 @@ in_four false n s e = (grind (arith, nat_tests), grind (arith, nat_tests))
 
 -- The draft keeps the kind
 
-pointer_kinds : (mode : AddressMode) (old now : Instance) → (with_pointer_range mode old now).kind ≡ now.kind
-pointer_kinds mode old now = sym (pointer_kind mode old now)
-
 stored_kind : (head : Head) (a : Ends) (v : Val) (inst : Instance) → (stored_in head a v inst).kind ≡ inst.kind
 stored_kind head a v inst = by_case (is_single a) (nat_eq a.lo 0x5F) (cell_place head inst.kind a.lo)
   where
     by_case : (t u : Bool) (place : Option ℕ)
         → (if t then (if u then with_flag_list (flags_from v) inst else with_cell place (span_of v) inst) else inst).kind ≡ inst.kind
-    by_case true true place = refl
     by_case true false (Some j) = refl
-    by_case true false None = refl
+    by_case true u place = refl
     by_case false u place = refl
 
 draft_kind : (e : Effect) (head : Head) (image : FinMap nat_cmp ℕ) (following sampled : ℕ) (inst : Instance)
     → (transfer head image following sampled e inst).kind ≡ inst.kind
 draft_kind (Binary op d source true) head image following sampled inst = refl
-draft_kind (Binary op d source false) head image following sampled inst = refl
-draft_kind (Load d from) head image following sampled inst = pointer_kinds from inst inst
+draft_kind (Load d from) head image following sampled inst = sym (pointer_rest from inst inst).0
 draft_kind (Store to r) head image following sampled inst =
-    pointer_kinds to inst (stored_in head (address_range to inst) (value_at inst.regs r) inst) ∙ stored_kind head (address_range to inst)
-    (value_at inst.regs r) inst
+    sym (pointer_rest to inst (stored_in head (address_range to inst) (value_at inst.regs r) inst)).0
+    ∙ stored_kind head (address_range to inst) (value_at inst.regs r) inst
 draft_kind (LoadProgram d true) head image following sampled inst = refl
-draft_kind (LoadProgram d false) head image following sampled inst = refl
 draft_kind (Jump target true) head image following sampled inst = refl
-draft_kind (Jump target false) head image following sampled inst = refl
-draft_kind (Return true) head image following sampled inst = refl
 draft_kind (Return false) head image following sampled inst = refl
-draft_kind NoOperation head image following sampled inst = refl
 draft_kind e head image following sampled inst = refl
 
 -- An instance that is alone
@@ -220,71 +140,87 @@ plan_of head length image e words clocks inst emitted = record {
   test = test_of head e inst;
 }
 
+-- what the loads give, and the data space behind them
+abbrev pub loads_of : Effect → (Outcome → ℕ) → State PadHistory → List ℕ
+loads_of e clocks s = loaded_bytes (space_loads history_wiring) s.core (sample_clock e clocks) s.space (load_addresses e s.core)
+
+abbrev pub content_of : Effect → (Outcome → ℕ) → State PadHistory → Space PadHistory
+content_of e clocks s = content_after_loads (space_loads history_wiring) (sample_clock e clocks) s.space (load_addresses e s.core)
+
 abbrev pub outcome_at : Effect → ℕ → (Outcome → ℕ) → State PadHistory → Outcome
-outcome_at e words clocks s = outcome_of e s.image words (loaded_bytes (space_loads history_wiring) s.core (sample_clock e clocks) s.space
-    (load_addresses e s.core)) s.core
+outcome_at e words clocks s = outcome_of e s.image words (loads_of e clocks s) s.core
 
 abbrev pub exit_at : Effect → ℕ → (Outcome → ℕ) → State PadHistory → Exit
 exit_at e words clocks s = record {
-  pc = next_pc e (outcome_at e words clocks s) words (loaded_bytes (space_loads history_wiring) s.core (sample_clock e clocks) s.space
-      (load_addresses e s.core)) s.core;
+  pc = next_pc e (outcome_at e words clocks s) words (loads_of e clocks s) s.core;
   clocks = clocks (outcome_at e words clocks s);
 }
 
+-- the timer's part: what a load of TCNT1L gives, and the timer after the instruction
+pub record TimePart (lines : Lines) (head : Head) (inst : Instance) (s : State PadHistory) (e : Effect) (words : ℕ) (clocks : Outcome → ℕ)
+    (event : Option EventKind) : Type 0 where
+  pub tcnt : is_handler inst.kind ≡ true → byte_at history_wiring (space_after (sample_clock e clocks) s.space) 0x84 ≡ sampled_of
+      (lines.length inst.line) e clocks inst % 256
+  pub timer : TimerMeets inst.kind (successor lines inst (plan_of head (lines.length inst.line) s.image e words clocks inst event)
+      (exit_at e words clocks s)) (state_of e words clocks s).space.timer
+  pub ticks : TimerCounts inst.kind (state_of e words clocks s).space.timer
+  pub below : is_handler inst.kind ≡ true → (state_of e words clocks s).space.timer.count ≤ (state_of e words clocks s).space.timer.top
+
+-- and beside it the level, the events and main's own part
+pub record KindPart (lines : Lines) (head : Head) (inst : Instance) (s : State PadHistory) (e : Effect) (words : ℕ) (clocks : Outcome → ℕ)
+    (event : Option EventKind) : Type 0 where
+  pub timed : TimePart lines head inst s e words clocks event
+  pub level : (n : ℕ) → n ≡ level_after event (sync_level s.space) → LevelMeets inst.kind
+      (if is_main inst.kind then inst.level else level_after event (inst.level % 2)) n
+  pub runs : (n : ℕ) → n ≡ level_after event (sync_level s.space) → n ≡ sync_level (state_of e words clocks s).space → MainTimer inst.kind
+      (clocks (outcome_at e words clocks s)) s (state_of e words clocks s)
+  pub silent : is_main inst.kind ≡ true → event ≡ None
+  pub emits : emission_at (sync_level s.space) e inst ≡ Some event
+
 effect_step : (head : Head) (lines : Lines) (inst : Instance) (o : Core) (d : ℕ) (s : State PadHistory) (e : Effect) (words : ℕ)
     (clocks : Outcome → ℕ) (event : Option EventKind) → EffectFits e → Before head inst o d s.core s.space → Meets head inst o d s
-    → (is_handler inst.kind ≡ true → byte_at history_wiring (space_after (sample_clock e clocks) s.space) 0x84 ≡ sampled_of
-    (lines.length inst.line) e clocks inst % 256)
-    → TimerMeets inst.kind (successor lines inst (plan_of head (lines.length inst.line) s.image e words clocks inst event)
-    (exit_at e words clocks s)) (state_of e words clocks s).space.timer → TimerCounts inst.kind (state_of e words clocks s).space.timer
-    → ((n : ℕ) → n ≡ level_after event (sync_level s.space) → LevelMeets inst.kind (if is_main inst.kind then inst.level else level_after
-    event (inst.level % 2)) n)
-    → ((n : ℕ) → n ≡ level_after event (sync_level s.space) → n ≡ sync_level (state_of e words clocks s).space → MainTimer inst.kind
-    (clocks (outcome_at e words clocks s)) s (state_of e words clocks s))
-    → (is_main inst.kind ≡ true → event ≡ None)
-    → (is_handler inst.kind ≡ true → (state_of e words clocks s).space.timer.count ≤ (state_of e words clocks s).space.timer.top)
-    → AllByRecursion IsByte (state_of e words clocks s).core.registers → returns_from_interrupt e ≡ false → fail_of head e inst ≡ None
-    → emission_at (sync_level s.space) e inst ≡ Some event → (1 ≤ clocks (outcome_at e words clocks s))
+    → KindPart lines head inst s e words clocks event → AllByRecursion IsByte (state_of e words clocks s).core.registers
+    → returns_from_interrupt e ≡ false → fail_of head e inst ≡ None → (1 ≤ clocks (outcome_at e words clocks s))
     × (clocks (outcome_at e words clocks s) ≤ 4) → TellsAway e clocks → IsCore (state_of e words clocks s).core
     → OneStep head lines inst o d (plan_of head (lines.length inst.line) s.image e words clocks inst event) s (edges_of e words clocks s)
     (state_of e words clocks s)
-effect_step head lines inst o d s e words clocks event fits b m tcnt timer ticks level runs silent below bytes stays fine emits time tells
-    is_core =
+effect_step head lines inst o d s e words clocks event fits b m k bytes stays fine time tells is_core =
     let following : following_of words inst ≡ following_pc words s.core = ap (λ n. (n + words) % 32768) (sym m.pc) in
     let plan : Step = plan_of head (lines.length inst.line) s.image e words clocks inst event in
-    let parts = parts_of history_wiring e head s.image (following_of words inst) (sampled_of (lines.length inst.line) e clocks inst) words
-    (sample_clock e clocks) (clocks (outcome_at e words clocks s)) d inst o s.core s.space event fits b bytes following tcnt stays fine
-    emits in
+    let parts = parts_of history_wiring head s.image (following_of words inst) (sampled_of (lines.length inst.line) e clocks inst) words
+    (sample_clock e clocks) (clocks (outcome_at e words clocks s)) d inst o s.core s.space b e event fits bytes following k.timed.tcnt stays
+    fine k.emits in
     let content = content_bytes history_wiring (sample_clock e clocks) s.space (load_addresses e s.core) in
-    let before : sync_level (space_after (clocks (outcome_at e words clocks s)) (content_after_loads (space_loads history_wiring)
-    (sample_clock e clocks) s.space (load_addresses e s.core))) ≡ sync_level s.space = ap (λ xs. slice_index xs 0x25 % 2) content in
+    let before : sync_level (space_after (clocks (outcome_at e words clocks s)) (content_of e clocks s)) ≡ sync_level s.space = ap
+    (λ xs. slice_index xs 0x25 % 2) content in
     let same : kinds_of e words clocks s ++ (if returns_from_interrupt e then LeaveEdge ∷ [] else []) ≡ kinds_of e words clocks s =
     ap (λ t. kinds_of e words clocks s ++ (if t then LeaveEdge ∷ [] else [])) stays ∙ append-nil (kinds_of e words clocks s) in
     record {
       exit = exit_at e words clocks s;
       is_exit = exit_holds history_wiring e head s.image clocks words (following_of words inst) (sample_clock e clocks) d inst o s.core
           s.space fits b following stays fine (outcome_at e words clocks s) refl;
-      meets = exit_meets head inst e s.image words clocks (loaded_bytes (space_loads history_wiring) s.core (sample_clock e clocks) s.space
-          (load_addresses e s.core)) s.core o d (exit_at e words clocks s) (successor lines inst plan (exit_at e words clocks s))
+      meets = exit_meets head inst e s.image words clocks (loads_of e clocks s) s.core o d (exit_at e words clocks s)
+          (successor lines inst plan (exit_at e words clocks s))
           (state_of e words clocks s) fits (record { tells = tells; goes = refl; registers = refl; sreg = refl }) is_core (record {
             pc = refl;
             enabled = parts.enabled;
             core = core_same (transfer head s.image (following_of words inst) (sampled_of (lines.length inst.line) e clocks inst) e inst)
-                (successor lines inst (plan_of head (lines.length inst.line) s.image e words clocks inst event) (exit_at e words clocks s)) o
-                (changed_core e s.image words (loaded_bytes (space_loads history_wiring) s.core (sample_clock e clocks) s.space
-                (load_addresses e s.core)) s.core) (state_of e words clocks s).core refl refl refl refl refl parts.core_meets;
-            compared = compared_same (compared_after head e inst) (changed_core e s.image words (loaded_bytes (space_loads history_wiring) s.core
-                (sample_clock e clocks) s.space (load_addresses e s.core)) s.core) (state_of e words clocks s).core refl refl
-                (compared_holds e (sync_level s.space) head s.image words (loaded_bytes (space_loads history_wiring) s.core (sample_clock e clocks)
-                s.space (load_addresses e s.core)) inst o s.core event fits b.fits b.is_core b.meets fine emits m.compared);
+                (successor lines inst (plan_of head (lines.length inst.line) s.image e words clocks inst event)
+                (exit_at e words clocks s)) o
+                (changed_core e s.image words (loads_of e clocks s) s.core) (state_of e words clocks s).core refl refl refl refl
+                refl parts.core_meets;
+            compared = compared_same (compared_after head e inst) (changed_core e s.image words (loads_of e clocks s) s.core)
+                (state_of e words clocks s).core refl refl
+                (compared_holds (sync_level s.space) head s.image words (loads_of e clocks s) inst o s.core event b.fits b.is_core
+                b.meets m.compared e fits fine k.emits);
             memory = memory_same head (transfer head s.image (following_of words inst) (sampled_of (lines.length inst.line) e clocks inst) e
                 inst) (successor lines inst (plan_of head (lines.length inst.line) s.image e words clocks inst event)
                 (exit_at e words clocks s)) o d _ (state_of e words clocks s).core.sp _ (state_of e words clocks s).space.bytes
                 (draft_kind e head s.image (following_of words inst) (sampled_of (lines.length inst.line) e clocks inst) inst) refl refl refl
                 refl parts.leads.memory;
-            timer = timer;
-            ticks = ticks;
-            level = level (sync_level (state_of e words clocks s).space) (parts.leads.shows.level ∙ ap (level_after event) before);
+            timer = k.timed.timer;
+            ticks = k.timed.ticks;
+            level = k.level (sync_level (state_of e words clocks s).space) (parts.leads.shows.level ∙ ap (level_after event) before);
             response = m.response;
           });
       asks = asks_none head e inst;
@@ -300,11 +236,10 @@ effect_step head lines inst o d s e words clocks event fits b m tcnt timer ticks
       settled = owes_none head inst e fine stays;
       untouched = subst (λ xs. Untouched head inst.kind (s.core.sp + depth_of inst) xs (state_of e words clocks s).space.bytes) content
           (stores_leave history_wiring e head words d inst o s.core s.space (space_after (clocks (outcome_at e words clocks s))
-          (content_after_loads (space_loads history_wiring) (sample_clock e clocks) s.space (load_addresses e s.core)))
-          (ap length content ∙ b.size) fits b fine);
-      silent = silent;
-      main_timer = runs (sync_level (state_of e words clocks s).space) (parts.leads.shows.level ∙ ap (level_after event) before) refl;
-      below_top = below;
+          (content_of e clocks s)) (ap length content ∙ b.size) fits b fine);
+      silent = k.silent;
+      main_timer = k.runs (sync_level (state_of e words clocks s).space) (parts.leads.shows.level ∙ ap (level_after event) before) refl;
+      below_top = k.timed.below;
     }
 
 -- The turn
@@ -333,46 +268,17 @@ reads_as head lines image inst step (Some i) reads e =
     (plan_of head (lines.length inst.line) image (effect_of i) (words_of i) (clocks_of i) inst None) step (sym e) in
     record { row = i; reads = reads.found; event = told.event; fine = told.fine; emits = told.emits; time = told.time; is = told.is }
 
--- the timer's part: what a load of TCNT1L gives, and the timer after the instruction
-pub record TimePart (lines : Lines) (head : Head) (inst : Instance) (s : State PadHistory) (e : Effect) (words : ℕ) (clocks : Outcome → ℕ)
-    (event : Option EventKind) : Type 0 where
-  pub tcnt : is_handler inst.kind ≡ true → byte_at history_wiring (space_after (sample_clock e clocks) s.space) 0x84 ≡ sampled_of
-      (lines.length inst.line) e clocks inst % 256
-  pub timer : TimerMeets inst.kind (successor lines inst (plan_of head (lines.length inst.line) s.image e words clocks inst event)
-      (exit_at e words clocks s)) (state_of e words clocks s).space.timer
-  pub ticks : TimerCounts inst.kind (state_of e words clocks s).space.timer
-  pub below : is_handler inst.kind ≡ true → (state_of e words clocks s).space.timer.count ≤ (state_of e words clocks s).space.timer.top
-
--- and beside it the level, the events and main's own part
-pub record KindPart (lines : Lines) (head : Head) (inst : Instance) (s : State PadHistory) (e : Effect) (words : ℕ) (clocks : Outcome → ℕ)
-    (event : Option EventKind) : Type 0 where
-  pub tcnt : is_handler inst.kind ≡ true → byte_at history_wiring (space_after (sample_clock e clocks) s.space) 0x84 ≡ sampled_of
-      (lines.length inst.line) e clocks inst % 256
-  pub timer : TimerMeets inst.kind (successor lines inst (plan_of head (lines.length inst.line) s.image e words clocks inst event)
-      (exit_at e words clocks s)) (state_of e words clocks s).space.timer
-  pub ticks : TimerCounts inst.kind (state_of e words clocks s).space.timer
-  pub below : is_handler inst.kind ≡ true → (state_of e words clocks s).space.timer.count ≤ (state_of e words clocks s).space.timer.top
-  pub level : (n : ℕ) → n ≡ level_after event (sync_level s.space) → LevelMeets inst.kind
-      (if is_main inst.kind then inst.level else level_after event (inst.level % 2)) n
-  pub runs : (n : ℕ) → n ≡ level_after event (sync_level s.space) → n ≡ sync_level (state_of e words clocks s).space → MainTimer inst.kind
-      (clocks (outcome_at e words clocks s)) s (state_of e words clocks s)
-  pub silent : is_main inst.kind ≡ true → event ≡ None
-  pub emits : emission_at (sync_level s.space) e inst ≡ Some event
-
 runs_outside : (k : Kind) (c : ℕ) (old new : State PadHistory) → is_main k ≡ false → MainTimer k c old new
 runs_outside Main c old new e = absurd cc
-runs_outside Handler c old new e = tt
-runs_outside Alone c old new e = tt
+runs_outside k c old new e = tt
 
 level_meets : (k : Kind) (old new n : ℕ) → is_main k ≡ false → n ≡ new → LevelMeets k (if is_main k then old else new) n
 level_meets Main old new n e q = absurd cc
-level_meets Handler old new n e q = q
-level_meets Alone old new n e q = q
+level_meets k old new n e q = q
 
 level_of : (k : Kind) (level sync : ℕ) → is_main k ≡ false → LevelMeets k level sync → sync ≡ level
 level_of Main level sync e h = absurd cc
-level_of Handler level sync e h = h
-level_of Alone level sync e h = h
+level_of k level sync e h = h
 
 own_bit : (byte level : ℕ) → byte % 2 ≡ level → byte % 2 ≡ level % 2
 own_bit byte level e = omega (arith, e)
@@ -388,7 +294,6 @@ pub any_contained : (head : Head) (lines : Lines) (image : FinMap nat_cmp ℕ) (
     → Contained head lines inst o d step s
 any_contained head lines image inst o d step s enters h part =
     let r = reads_as head lines image inst step h.step_is.row h.step_is.reads h.step_is.is in
-    let i : Instr = r.row in
     let stays : returns_from_interrupt (effect_of r.row) ≡ false = subst (λ (x : Step). x.back ≡ false) r.is h.no_return in
     let pc : s.core.pc ≡ inst.pc % 32768 = omega (arith, h.meets.pc, h.is_state.core.pc) in
     let reads : Reads (word_of s.image s.core.pc) (word_of s.image ((s.core.pc + 1) % 32768)) r.row =
@@ -422,8 +327,8 @@ any_contained head lines image inst o d step s enters h part =
         let one : OneStep head lines inst o d (plan_of head (lines.length inst.line) s.image (effect_of r.row) (words_of r.row)
         (clocks_of r.row) inst r.event) s (instruction_edges history_wiring r.row s) (after_instruction history_wiring r.row s) =
         let k = part r.row r.event r.reads r.fine r.emits stays r.time time.1 in
-        effect_step head lines inst o d s (effect_of r.row) (words_of r.row) (clocks_of r.row) r.event (effect_fits r.row) b h.meets k.tcnt
-        k.timer k.ticks k.level k.runs k.silent k.below after.core.registers stays r.fine k.emits time (row_tells r.row) after.core in
+        effect_step head lines inst o d s (effect_of r.row) (words_of r.row) (clocks_of r.row) r.event (effect_fits r.row) b h.meets
+        k after.core.registers stays r.fine time (row_tells r.row) after.core in
         let flash : s.image ≡ image = h.flash in
         let plan : plan_of head (lines.length inst.line) s.image (effect_of r.row) (words_of r.row) (clocks_of r.row) inst r.event ≡ step =
         ap (λ (m : FinMap nat_cmp ℕ). plan_of head (lines.length inst.line) m (effect_of r.row) (words_of r.row) (clocks_of r.row) inst
@@ -447,12 +352,8 @@ outside_contained head lines image inst o d step s out h part =
     let level : sync_level s.space ≡ inst.level % 2 = own_bit (slice_index s.space.bytes 0x25) inst.level
     (level_of inst.kind inst.level (sync_level s.space) out h.meets.level) in
     any_contained head lines image inst o d step s enters h (λ i event reads fine emits back in_time few.
-    let p = part i event fine back in_time few in
     record {
-      tcnt = p.tcnt;
-      timer = p.timer;
-      ticks = p.ticks;
-      below = p.below;
+      timed = part i event fine back in_time few;
       level = λ n q. level_meets inst.kind inst.level (level_after event (inst.level % 2)) n out (q ∙ ap (level_after event) level);
       runs = λ n q r. runs_outside inst.kind _ s _ out;
       silent = λ m. absurd cc;
@@ -472,18 +373,14 @@ alone_contained head lines image inst o d step s kind h =
 
 -- An instruction of main
 
-or_false : (a b : Bool) → (a || b) ≡ false → (a ≡ false) × (b ≡ false)
-or_false true b e = absurd cc
-or_false false b e = (refl, e)
-
 -- what shows nothing shows nothing at any level
 silent_byte : (level at : ℕ) (v : Val) → (nat_eq at 0x23 || (nat_eq at 0x25 || (nat_eq at 0x26 || (nat_eq at 0x28 || nat_eq at 0xB3))))
     ≡ false → byte_event level v at ≡ Some None
 silent_byte level at v e =
-    let a = or_false (nat_eq at 0x23) _ e in
-    let b = or_false (nat_eq at 0x25) _ a.1 in
-    let c = or_false (nat_eq at 0x26) _ b.1 in
-    let d = or_false (nat_eq at 0x28) _ c.1 in
+    let a = or_parts (nat_eq at 0x23) _ e in
+    let b = or_parts (nat_eq at 0x25) _ a.1 in
+    let c = or_parts (nat_eq at 0x26) _ b.1 in
+    let d = or_parts (nat_eq at 0x28) _ c.1 in
     rw (a.0, b.0, c.0, d.0, d.1) refl
 
 silent_store : (level : ℕ) (a : Ends) (v : Val)
@@ -526,8 +423,6 @@ silent_emission : (level : ℕ) (e : Effect) (inst : Instance) → returns_from_
 silent_emission level (Store to r) inst back h = silent_store level (address_range to inst) (value_at inst.regs r) h
 silent_emission level (WriteIoBit at b set) inst back h = silent_bit level at b set h
 silent_emission level (Return true) inst back h = absurd cc
-silent_emission level (Return false) inst back h = refl
-silent_emission level NoOperation inst back h = refl
 silent_emission level e inst back h = refl
 
 flag_clears : (t a b u m : Bool) → m ≡ true → (t && (a && (m || b))) ≡ false → (t && (a && u)) ≡ false
@@ -549,7 +444,6 @@ main_clears : (e : Effect) (head : Head) (inst : Instance) → is_main inst.kind
 main_clears (Store to r) head inst m f = flag_clears (is_single (address_range to inst)) (nat_eq (address_range to inst).lo 0x36) _ _
     (is_main inst.kind) m (facts_of head inst to r f).flag
 main_clears (WriteIoBit at b set) head inst m f = bit_clears (nat_eq at 0x36) set (is_main inst.kind) (nat_eq b 1) m (unless_none _ _ _ f).0
-main_clears NoOperation head inst m f = refl
 main_clears e head inst m f = refl
 
 main_part : (head : Head) (lines : Lines) (inst : Instance) (o : Core) (d : ℕ) (s : State PadHistory) (e : Effect) (words : ℕ)
@@ -561,49 +455,45 @@ main_part head lines inst o d s e words clocks event kind fits b m fine emits ba
     let ticks : (is_counting s.space.timer ≡ true) × (bit_is_set s.space.timer.interrupt_mask 1 ≡ true) =
     subst (λ k. TimerCounts k s.space.timer) kind m.ticks in
     let loaded = loads_beside history_wiring (sample_clock e clocks) s.space (load_addresses e s.core) in
-    let counting : is_counting (content_after_loads (space_loads history_wiring) (sample_clock e clocks) s.space
-    (load_addresses e s.core)).timer ≡ true =
-    ap (λ n. n % 32 == 9 && (content_after_loads (space_loads history_wiring) (sample_clock e clocks) s.space
-    (load_addresses e s.core)).timer.control_a % 4 == 0) loaded.control_b
+    let counting : is_counting (content_of e clocks s).timer ≡ true =
+    ap (λ n. n % 32 == 9 && (content_of e clocks s).timer.control_a % 4 == 0) loaded.control_b
     ∙ (ap (λ n. s.space.timer.control_b % 32 == 9 && n % 4 == 0) loaded.control_a ∙ ticks.0) in
-    let on = later (clocks (outcome_at e words clocks s)) (content_after_loads (space_loads history_wiring) (sample_clock e clocks) s.space
-    (load_addresses e s.core)).timer counting in
+    let on = later (clocks (outcome_at e words clocks s)) (content_of e clocks s).timer counting in
     let main : is_main inst.kind ≡ true = ap is_main kind in
     let stored = stores_beside history_wiring e head words d inst o s.core s.space (space_after (clocks (outcome_at e words clocks s))
-    (content_after_loads (space_loads history_wiring) (sample_clock e clocks) s.space (load_addresses e s.core))) fits
-    (ap (λ k. is_main k || is_handler k) kind) b fine in
+    (content_of e clocks s)) fits (ap (λ k. is_main k || is_handler k) kind) b fine in
     let keeps : clears_flag e inst ≡ false = main_clears e head inst main fine in
     let stays = top_stays e head d inst o s.core s.space (timer_after (clocks (outcome_at e words clocks s))
-    (content_after_loads (space_loads history_wiring) (sample_clock e clocks) s.space (load_addresses e s.core)).timer) fits
-    (ap is_handler kind) b fine in
+    (content_of e clocks s).timer) fits (ap is_handler kind) b fine in
     let nothing : event ≡ None = (let z = silent_emission (inst.level % 2) e inst back silent in let y : Some event ≡ Some None = sym emits
     ∙ z in cc) in
     record {
-      tcnt = λ t. (let z : is_handler inst.kind ≡ false = ap is_handler kind in absurd cc);
-      below = λ t. (let z : is_handler inst.kind ≡ false = ap is_handler kind in absurd cc);
-      timer = subst (λ k. TimerMeets k (successor lines inst (plan_of head (lines.length inst.line) s.image e words clocks inst event)
-          (exit_at e words clocks s)) (state_of e words clocks s).space.timer) (sym kind) tt;
-      ticks = subst (λ k. TimerCounts k (state_of e words clocks s).space.timer) (sym kind) (
-        ap (λ n. n % 32 == 9 && (state_of e words clocks s).space.timer.control_a % 4 == 0)
-            (stored.control_b ∙ (on.control_b ∙ loaded.control_b))
-            ∙ (ap (λ n. s.space.timer.control_b % 32 == 9 && n % 4 == 0) (stored.control_a ∙ (on.control_a ∙ loaded.control_a)) ∙ ticks.0),
-        ap (λ n. bit_is_set n 1) (stored.mask ∙ (on.mask ∙ loaded.mask)) ∙ ticks.1,
-      );
+      timed = record {
+        tcnt = λ t. (let z : is_handler inst.kind ≡ false = ap is_handler kind in absurd cc);
+        below = λ t. (let z : is_handler inst.kind ≡ false = ap is_handler kind in absurd cc);
+        timer = subst (λ k. TimerMeets k (successor lines inst (plan_of head (lines.length inst.line) s.image e words clocks inst event)
+            (exit_at e words clocks s)) (state_of e words clocks s).space.timer) (sym kind) tt;
+        ticks = subst (λ k. TimerCounts k (state_of e words clocks s).space.timer) (sym kind) (
+          ap (λ n. n % 32 == 9 && (state_of e words clocks s).space.timer.control_a % 4 == 0)
+              (stored.control_b ∙ (on.control_b ∙ loaded.control_b))
+              ∙ (ap (λ n. s.space.timer.control_b % 32 == 9 && n % 4 == 0) (stored.control_a ∙ (on.control_a ∙ loaded.control_a))
+              ∙ ticks.0),
+          ap (λ n. bit_is_set n 1) (stored.mask ∙ (on.mask ∙ loaded.mask)) ∙ ticks.1,
+        );
+      };
       level = λ n q. subst (λ k. LevelMeets k (if is_main k then inst.level else level_after event (inst.level % 2)) n) (sym kind) tt;
       runs = λ n q r. subst (λ k. MainTimer k (clocks (outcome_at e words clocks s)) s (state_of e words clocks s)) (sym kind) (
         sym r ∙ (q ∙ ap (λ x. level_after x (sync_level s.space)) nothing),
         stored.top ∙ (stays ∙ (on.top ∙ loaded.top)),
-        stored.count ∙ (on.count ∙ (ap (λ n. count_after n (content_after_loads (space_loads history_wiring) (sample_clock e clocks) s.space
-            (load_addresses e s.core)).timer.top (clocks (outcome_at e words clocks s))) loaded.count
+        stored.count ∙ (on.count ∙ (ap (λ n. count_after n (content_of e clocks s).timer.top (clocks (outcome_at e words clocks s)))
+            loaded.count
             ∙ ap (λ n. count_after s.space.timer.count n (clocks (outcome_at e words clocks s))) loaded.top)),
         stored.matched ∙ (ap (λ x. not x
-            && (timer_after (clocks (outcome_at e words clocks s)) (content_after_loads (space_loads history_wiring) (sample_clock e clocks)
-            s.space (load_addresses e s.core)).timer).matched) keeps
-            ∙ (on.matched ∙ (ap (λ x. x || matches_within (content_after_loads (space_loads history_wiring) (sample_clock e clocks) s.space
-            (load_addresses e s.core)).timer.count (content_after_loads (space_loads history_wiring) (sample_clock e clocks) s.space
-            (load_addresses e s.core)).timer.top (clocks (outcome_at e words clocks s))) loaded.matched
-            ∙ (ap (λ n. s.space.timer.matched || matches_within n (content_after_loads (space_loads history_wiring) (sample_clock e clocks)
-            s.space (load_addresses e s.core)).timer.top (clocks (outcome_at e words clocks s))) loaded.count
+            && (timer_after (clocks (outcome_at e words clocks s)) (content_of e clocks s).timer).matched) keeps
+            ∙ (on.matched ∙ (ap (λ x. x || matches_within (content_of e clocks s).timer.count (content_of e clocks s).timer.top
+            (clocks (outcome_at e words clocks s))) loaded.matched
+            ∙ (ap (λ n. s.space.timer.matched || matches_within n (content_of e clocks s).timer.top
+            (clocks (outcome_at e words clocks s))) loaded.count
             ∙ ap (λ n. s.space.timer.matched || matches_within s.space.timer.count n (clocks (outcome_at e words clocks s))) loaded.top)))),
       );
       silent = λ m. nothing;

@@ -1,42 +1,18 @@
 -- What changes of registers, pairs and flags keep of a core that meets an instance.
-use Rattle.std.proofs.Common.{◌≡◌, ◌≢◌, ℕ, zero, suc, ◌+◌, ◌-◌, ◌*◌, ◌/◌, ◌<◌, ◌≤◌, Bool, true, false, if◌then◌else◌, nat_le, List, [], ◌∷◌}
-use Rattle.std.proofs.Common.{length, refl, sym, ◌∙◌, ap, subst, inl, inr, arith}
-use Rattle.std.specs.Prelude.{slice_index, slice_index_or, slice_set}
-use Rattle.std.proofs.lemmas.List.{length-set}
-use Rattle.std.proofs.lemmas.Bool.Decides.{eqb_tells, nat_tests}
-use Rattle.uz_core.specs.Core.{Core, register, pair, with_register}
-use Rattle.uz_core.specs.CoreRange.{IsByte, IsCore}
+use Rattle.uz_rules.proofs.Common.{get_or-set_same, get_or-set_other, ◌≡◌, ◌≢◌, ℕ, zero, suc, ◌+◌, ◌-◌, ◌*◌, ◌/◌, ◌<◌, ◌≤◌, Bool, true}
+use Rattle.uz_rules.proofs.Common.{false, if◌then◌else◌, nat_le, List, [], ◌∷◌, length, refl, sym, ◌∙◌, subst, inl, inr, arith, slice_index}
+use Rattle.uz_rules.proofs.Common.{slice_index_or, slice_set, length-set, eqb_tells, nat_tests, Core, register, pair, with_register, IsByte}
+use Rattle.uz_rules.proofs.Common.{IsCore, Ends, Val, Range, Old, OldFlags, Instance, IsWithin, ends, span_of, value_at, pair_at, byte_hull}
+use Rattle.uz_rules.proofs.Common.{pair_range, with_value, with_pair_range, ValueHolds, CoreMeets, is_pointer, pair_number}
 use Rattle.uz_core.proofs.ByteLists.{byte_at, bytes_set}
-use Rattle.uz_schedule.specs.Ends.{Ends}
-use Rattle.uz_schedule.specs.declared.facts.Val.{Val}
-use Rattle.uz_schedule.specs.declared.facts.Val.TheVariants.{Range, Old, OldFlags}
-use Rattle.uz_schedule.specs.declared.states.Instance.{Instance}
-use Rattle.uz_range.specs.Containment.{IsWithin}
-use Rattle.uz_range.specs.Answers.{ends}
-use Rattle.uz_transfer.specs.Values.{span_of, value_at, pair_at, byte_hull, is_pointer, pair_number, pair_range, with_value}
-use Rattle.uz_transfer.specs.Values.{with_pair_range}
-use Rattle.uz_rules.specs.CoreMeets.{ValueHolds, CoreMeets}
 
 -- Lists
 
 pub set_same : (xs : List ℕ) (d x : ℕ) → d < length xs → slice_index (slice_set xs d x) d ≡ x
-set_same [] d x h = absurd (omega arith)
-set_same (y ∷ xs) zero x h = refl
-set_same (y ∷ xs) (suc d) x h = set_same xs d x (omega arith)
+set_same xs d x h = get_or-set_same xs d x 0 h
 
 pub set_other : (xs : List ℕ) (d q x : ℕ) → q ≢ d → slice_index (slice_set xs d x) q ≡ slice_index xs q
-set_other [] d q x h = refl
-set_other (y ∷ xs) zero zero x h = absurd (h refl)
-set_other (y ∷ xs) zero (suc q) x h = refl
-set_other (y ∷ xs) (suc d) zero x h = refl
-set_other (y ∷ xs) (suc d) (suc q) x h = set_other xs d q x (λ e. h (ap suc e))
-
-pub or_other : {A : Type 0} (xs : List A) (d q : ℕ) (x e : A) → q ≢ d → slice_index_or (slice_set xs d x) q e ≡ slice_index_or xs q e
-or_other [] d q x e h = refl
-or_other (y ∷ xs) zero zero x e h = absurd (h refl)
-or_other (y ∷ xs) zero (suc q) x e h = refl
-or_other (y ∷ xs) (suc d) zero x e h = refl
-or_other (y ∷ xs) (suc d) (suc q) x e h = or_other xs d q x e (λ p. h (ap suc p))
+set_other xs d q x h = get_or-set_other xs d q x 0 h
 
 -- what holds of the element that is set and of the default
 pub or_same : {A : Type 0} (P : A → Type 0) (xs : List A) (d : ℕ) (x e : A) → P x → P e → P (slice_index_or (slice_set xs d x) d e)
@@ -63,6 +39,11 @@ register_byte s n h = byte_at s.registers n h.registers
 
 pub pair_word : (s : Core) (n : ℕ) → IsCore s → pair s n < 65536
 pair_word s n h = omega (arith, register_byte s n h, register_byte s (n + 1) h)
+
+-- and so does a register
+pub within_span : (inst : Instance) (o s : Core) (d : ℕ) → IsCore s → d < 32 → CoreMeets inst o s
+    → IsWithin (register s d) (span_of (value_at inst.regs d))
+within_span inst o s d c hd meets = in_span (value_at inst.regs d) o (register s d) (register_byte s d c) (meets.regs d hd)
 
 abbrev pub RegsHold : List Val → Core → Core → Type 0
 RegsHold regs o core = (r : ℕ) → r < 32 → ValueHolds (value_at regs r) o (register core r)
@@ -92,7 +73,7 @@ regs_set inst o core d x v c b bx hv h r k =
           subst (λ q. ValueHolds (value_at (slice_set inst.regs d v) q) o (slice_index (slice_set core.registers d x) q)) (sym t.1)
           (rw (set_same core.registers d x (omega (arith, c.count, b))) (or_same (λ w. ValueHolds w o x) inst.regs d v (Range (ends 0 255))
           hv (whole x bx)))
-      | inr t ↦ rw (or_other inst.regs d r v (Range (ends 0 255)) t.1, set_other core.registers d r x t.1) (h r k)
+      | inr t ↦ rw (get_or-set_other inst.regs d r v (Range (ends 0 255)) t.1, set_other core.registers d r x t.1) (h r k)
     ]
 
 -- a pair of which no byte is written
@@ -117,7 +98,7 @@ pairs_rehulled regs pairs o core d x c b h old true e k w =
           (whole_pair _ (pair_word (with_register d x core) (26 + 2 * pair_number d) c)))
       | inr t ↦
           rw (
-            or_other pairs (pair_number d) k (byte_hull regs (26 + 2 * pair_number d)) (ends 0 65535) t.1,
+            get_or-set_other pairs (pair_number d) k (byte_hull regs (26 + 2 * pair_number d)) (ends 0 65535) t.1,
             pair_other core d x
                 (26 + 2 * k) (λ q. t.1 (omega (arith, q))) (λ q. t.1 (omega (arith, q))),
           ) (old k w)
@@ -170,7 +151,7 @@ range_meets inst o core d e c b he h = by_case (is_pointer d) refl
                     (or_same (λ q. IsWithin (pair core (26 + 2 * pair_number d)) q) inst.pairs (pair_number d) e (ends 0 65535)
                     (subst (λ n. IsWithin (pair core n) e) p.0 he)
                     (whole_pair _ (pair_word core (26 + 2 * pair_number d) c)))
-                | inr t ↦ rw (or_other inst.pairs (pair_number d) k e (ends 0 65535) t.1) (h.pairs k w)
+                | inr t ↦ rw (get_or-set_other inst.pairs (pair_number d) k e (ends 0 65535) t.1) (h.pairs k w)
               ];
           flags = h.flags;
         }

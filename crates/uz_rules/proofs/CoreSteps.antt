@@ -1,34 +1,18 @@
 -- Steps of a core that meets an instance: flags, pairs, pointers and SREG.
-use Rattle.std.proofs.Common.{◌≡◌, inl, inr, ℕ, zero, suc, ◌+◌, ◌-◌, ◌*◌, ◌/◌, ◌%◌, ◌^◌, ◌<◌, ◌≤◌, Bool, true, false, if◌then◌else◌, nat_eq}
-use Rattle.std.proofs.Common.{nat_lt, Option, Some, None, List, [], ◌∷◌, length, is_none, refl, sym, ◌∙◌, ap, subst, arith}
-use Rattle.std.specs.Prelude.{slice_index_or, slice_set, ◌&&◌}
-use Rattle.std.specs.Int.{bit_at}
-use Rattle.std.proofs.lemmas.Bool.Decides.{eqb_tells, nat_tests}
-use Rattle.std.proofs.lemmas.Nat.Bits.{bit_at-suc, bit_at_lowest, bit_at-lt, bit_at_cat_low, bit_at_cat_high, same_from_bits_below}
-use Rattle.std.proofs.lemmas.Nat.Bits.{bit_at_above}
-use Rattle.uz_core.specs.declared.machine.AddressMode.{AddressMode}
-use Rattle.uz_core.specs.declared.machine.AddressMode.TheVariants.{Direct, Displacement, PostIncrement, PreDecrement}
-use Rattle.uz_core.specs.Arithmetic.{AluResult, bit_value, bit_is_set}
-use Rattle.uz_core.specs.Core.{Core, register, pair, with_register, with_pair, with_flags, effective_address, with_pointer_after}
-use Rattle.uz_core.specs.CoreRange.{IsCore}
-use Rattle.uz_core.specs.OperandRanges.{AddressModeFits}
-use Rattle.uz_schedule.specs.Ends.{Ends}
-use Rattle.uz_schedule.specs.declared.facts.Bit.{Bit}
-use Rattle.uz_schedule.specs.declared.facts.Bit.TheVariants.{Zero, One, Free, Old as OldBit}
-use Rattle.uz_schedule.specs.declared.facts.Val.{Val}
-use Rattle.uz_schedule.specs.declared.facts.Val.TheVariants.{Range, Old, OldFlags}
-use Rattle.uz_schedule.specs.declared.states.Instance.{Instance}
-use Rattle.uz_range.specs.Answers.{ends, is_single, is_known, is_one}
-use Rattle.uz_range.specs.Containment.{IsWithin, MayBe, Admits, AdmitsAll}
-use Rattle.uz_range.specs.Rules.{low_answer, high_answer, bst_answer, pair_add_answer, pair_sub_answer}
-use Rattle.uz_range.proofs.PairsCover.{low_covers, high_covers, bst_covers, pair_add_covers, pair_sub_covers}
-use Rattle.uz_transfer.specs.Values.{exact_pair, byte_hull, flag_at, pair_range, each_flag, with_value, with_pair_value, with_flag_list}
-use Rattle.uz_transfer.specs.Values.{merged_flags, known_byte}
-use Rattle.uz_rules.specs.CoreMeets.{ValueHolds, FlagHolds, CoreMeets}
-use Rattle.uz_transfer.specs.Memory.{address_range, with_pointer_range, all_flags, is_old, flags_number, sreg_value, flags_from}
-use Rattle.uz_transfer.specs.Kinds.{is_main}
+use Rattle.uz_rules.proofs.Common.{◌≡◌, inl, inr, ℕ, zero, suc, ◌+◌, ◌-◌, ◌*◌, ◌/◌, ◌%◌, ◌^◌, ◌<◌, ◌≤◌, Bool, true, false, if◌then◌else◌}
+use Rattle.uz_rules.proofs.Common.{nat_eq, nat_lt, Option, Some, None, List, [], ◌∷◌, length, is_none, refl, sym, ◌∙◌, ap, subst, arith}
+use Rattle.uz_rules.proofs.Common.{slice_index_or, slice_set, bit_at, eqb_tells, nat_tests, bit_at_lowest, same_from_bits_below}
+use Rattle.uz_rules.proofs.Common.{bit_at_above, AddressMode, Direct, Displacement, PostIncrement, PreDecrement, AluResult, bit_value}
+use Rattle.uz_rules.proofs.Common.{bit_is_set, Core, register, pair, with_register, with_pair, with_flags, effective_address}
+use Rattle.uz_rules.proofs.Common.{with_pointer_after, IsCore, AddressModeFits, Ends, Bit, Zero, One, Free, OldBit, Val, Range, Old}
+use Rattle.uz_rules.proofs.Common.{OldFlags, Instance, ends, is_single, is_known, is_one, IsWithin, MayBe, Admits, AdmitsAll, low_answer}
+use Rattle.uz_rules.proofs.Common.{high_answer, bst_answer, pair_add_answer, low_covers, high_covers, bst_covers, pair_add_covers}
+use Rattle.uz_rules.proofs.Common.{pair_sub_covers, exact_pair, byte_hull, flag_at, pair_range, with_value, with_pair_value, with_flag_list}
+use Rattle.uz_rules.proofs.Common.{merged_flags, known_byte, ValueHolds, FlagHolds, CoreMeets, address_range, with_pointer_range, all_flags}
+use Rattle.uz_rules.proofs.Common.{is_old, flags_number, sreg_value, flags_from, is_main, or_kept, bit_of_merged, and_parts}
+use Rattle.uz_rules.proofs.Common.{pair_sub_answer, each_flag}
+use Rattle.std.proofs.lemmas.Nat.Bits.{bit_at-suc, bit_at-lt, bit_at_cat_low, bit_at_cat_high}
 use Rattle.uz_rules.proofs.CoreKeeps.{hull_holds, set_same, set_other, whole, pair_word, pair_holds, val_meets, range_meets, core_with}
-use Rattle.uz_core.proofs.SregBits.{or_kept, bit_of_merged}
 
 -- registers, pairs and flags of two instances, and of two cores, may be the same
 pub core_same : (a b : Instance) (o c d : Core) → a.regs ≡ b.regs → a.pairs ≡ b.pairs → a.flags ≡ b.flags → c.registers ≡ d.registers
@@ -40,22 +24,15 @@ core_same a b o c d r p f x s h = record {
 }
 
 pub seven_at : {A : Type 0} (f : ℕ → A) (d : A) (k : ℕ) → k < 7 → slice_index_or (each_flag f) k d ≡ f k
-seven_at f d zero h = refl
-seven_at f d (suc zero) h = refl
-seven_at f d (suc (suc zero)) h = refl
-seven_at f d (suc (suc (suc zero))) h = refl
-seven_at f d (suc (suc (suc (suc zero)))) h = refl
-seven_at f d (suc (suc (suc (suc (suc zero))))) h = refl
-seven_at f d (suc (suc (suc (suc (suc (suc zero)))))) h = refl
 seven_at f d (suc (suc (suc (suc (suc (suc (suc k))))))) h = absurd (omega arith)
+seven_at f d k h = refl
 
 -- Flags
 
 pub may_be : (f : Bit) (before b : Bool) → FlagHolds f before b → MayBe f b
 may_be Zero before b h = h
 may_be One before b h = h
-may_be Free before b h = tt
-may_be OldBit before b h = tt
+may_be f before b h = tt
 
 pub told : (n : Bit) (before c : Bool) → Admits n (Some c) → FlagHolds n before c
 told Zero before c h = cc
@@ -171,10 +148,9 @@ pointer_meets (PreDecrement p) old now o core new c n fits h g =
     (stepped_down (exact_pair old p) (pair core p) (pair_word core p c) (exact_holds old o core p c h fits.1.0)) g
 
 pub core_with_pointer : (mode : AddressMode) (at : ℕ) (core : Core) → at < 65536 → IsCore core → IsCore (with_pointer_after mode at core)
-core_with_pointer (Direct k) at core b c = c
-core_with_pointer (Displacement p q) at core b c = c
 core_with_pointer (PostIncrement p) at core b c = core_with_pair p ((at + 1) % 65536) core (omega arith) c
 core_with_pointer (PreDecrement p) at core b c = core_with_pair p at core b c
+core_with_pointer mode at core b c = c
 
 -- SREG
 
@@ -196,12 +172,7 @@ record Counted (fs : List Bit) (n : ℕ) : Type 0 where
 known_bit : (b : Bit) (before : Bool) (n : ℕ) → is_known b ≡ true → FlagHolds b before (bit_is_set n 0) → n % 2 ≡ bit_value (is_one b)
 known_bit Zero before n e h = let l = bit_at_lowest n in let f = bit_at-lt n 0 in grind (arith, nat_tests)
 known_bit One before n e h = let l = bit_at_lowest n in grind (arith, nat_tests)
-known_bit Free before n e h = absurd cc
-known_bit OldBit before n e h = absurd cc
-
-and_true : (a b : Bool) → (a && b) ≡ true → (a ≡ true) × (b ≡ true)
-and_true true b e = (refl, e)
-and_true false b e = absurd cc
+known_bit b before n e h = absurd cc
 
 pow-suc : (k : ℕ) → 2 ^ suc k ≡ 2 * 2 ^ k
 pow-suc k = omega arith
@@ -210,7 +181,7 @@ counted : (fs : List Bit) (before : ℕ → Bool) (n : ℕ) → all_flags is_kno
     → ((k : ℕ) → k < length fs → FlagHolds (flag_at fs k) (before k) (bit_is_set n k)) → Counted fs n
 counted [] before n e h = record { rest = n; is = omega arith }
 counted (f ∷ fs) before n e h =
-    let both = and_true (is_known f) (all_flags is_known fs) e in
+    let both = and_parts (is_known f) (all_flags is_known fs) e in
     let low = known_bit f (before 0) n both.0 (h 0 (omega arith)) in
     let more = counted fs (λ k. before (suc k)) (n / 2) both.1 (λ k w. rw (← bit_at-suc n k) (h (suc k) (omega arith))) in
     let p = pow-suc (length fs) in
@@ -239,9 +210,8 @@ same_bit a b k e = let p = bit_at-lt a k in let q = bit_at-lt b k in by_case (bi
   where
     by_case : (t u : Bool) → nat_eq (bit_at a k) 1 ≡ t → nat_eq (bit_at b k) 1 ≡ u → t ≡ u → bit_at a k ≡ bit_at b k
     by_case true true p q e = grind (arith, nat_tests)
-    by_case true false p q e = absurd cc
-    by_case false true p q e = absurd cc
     by_case false false p q e = let i = bit_at-lt a k in let j = bit_at-lt b k in grind (arith, nat_tests)
+    by_case t u p q e = absurd cc
 
 -- what is known of SREG
 pub sreg_holds : (inst : Instance) (o core : Core) → length inst.flags ≡ 7

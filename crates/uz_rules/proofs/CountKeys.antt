@@ -1,21 +1,8 @@
 -- What lies in all that a point's facts say lies in what one of them says.
-use Rattle.std.proofs.Common.{◌≡◌, ◌<◌, ℕ, Bool, true, false, List, length, map, nat_eq, refl, ◌∙◌, ap}
-use Rattle.std.specs.Prelude.{◌&&◌}
-use Rattle.uz_schedule.specs.Ends.{Ends}
-use Rattle.uz_schedule.specs.declared.facts.Fact.{Fact}
-use Rattle.uz_schedule.specs.declared.facts.Val.{Val}
-use Rattle.uz_schedule.specs.declared.states.Instance.{Instance}
-use Rattle.uz_schedule.specs.declared.states.Point.{Point}
-use Rattle.uz_schedule.specs.Instances.{val_of, cell_span, pairs_of}
-use Rattle.uz_transfer.specs.Values.{value_at, span_at}
-use Rattle.uz_transfer.specs.Refusals.{range_inside}
-use Rattle.uz_rules.specs.Inside.{all_below, value_inside, pairs_inside}
-use Rattle.uz_rules.specs.FactInclusion.{said_at, facts_inside}
+use Rattle.uz_rules.proofs.Common.{and_parts, ◌≡◌, ◌<◌, ℕ, Bool, true, false, List, length, map, nat_eq, refl, ◌∙◌, ap, Ends, Fact, Val}
+use Rattle.uz_rules.proofs.Common.{Instance, Point, val_of, cell_span, pairs_of, value_at, span_at, range_inside, all_below, value_inside}
+use Rattle.uz_rules.proofs.Common.{pairs_inside, said_at, facts_inside}
 use Rattle.uz_rules.proofs.InsideMeets.{below_tells, ContentsInside, contents_tell}
-
-and_rest : (a b : Bool) → (a && b) ≡ true → b ≡ true
-and_rest true b e = e
-and_rest false b e = absurd cc
 
 module _ (inst : Instance) (p : Point) (c : ℕ) where
   all_parts : facts_inside inst p c ≡ true → ContentsInside inst (said_at p inst c)
@@ -29,13 +16,14 @@ module _ (inst : Instance) (p : Point) (c : ℕ) where
   pub slots_tell : (vals : List Val) (facts : List Fact) → vals ≡ inst.stack.items → facts ≡ p.stack.items → facts_inside inst p c ≡ true
       → all_below (length vals) (λ i. value_inside (value_at vals i) (value_at (map (val_of inst.line c) facts) i)) ≡ true
   slots_tell vals facts is fact e =
-      rw (is, fact) (and_rest (nat_eq (length inst.stack.items) (length (map (val_of inst.line c) p.stack.items))) _ (all_parts e).slots)
+      rw (is, fact) (and_parts (nat_eq (length inst.stack.items) (length (map (val_of inst.line c) p.stack.items))) _ (all_parts e).slots).1
 
   pub cells_tell : (spans : List Ends) (facts : List Fact) → spans ≡ inst.cells.items → facts ≡ p.cells.items
       → facts_inside inst p c ≡ true
       → all_below (length spans) (λ j. range_inside (span_at spans j) (span_at (map (cell_span inst.line c) facts) j)) ≡ true
   cells_tell spans facts is fact e =
-      rw (is, fact) (and_rest (nat_eq (length inst.cells.items) (length (map (cell_span inst.line c) p.cells.items))) _ (all_parts e).cells)
+      rw (is, fact) (and_parts (nat_eq (length inst.cells.items) (length (map (cell_span inst.line c) p.cells.items))) _
+      (all_parts e).cells).1
 
   pub pairs_tell : facts_inside inst p c ≡ true
       → pairs_inside inst.pairs (pairs_of inst.line c (map (val_of inst.line c) p.regs) p.pairs) ≡ true

@@ -1,28 +1,12 @@
 -- What stands in a result while the values of a cover are asked, and what a cover tells of a state.
-use Rattle.std.proofs.Common.{◌-◌, ◌<◌, ◌≤◌, ◌≡◌, ℕ, zero, suc, ◌+◌, Bool, true, false, List, [], ◌∷◌}
-use Rattle.std.proofs.Common.{Option, Some, None, refl, ap, subst, arith}
-use Rattle.std.specs.Prelude.{◌&&◌, ◌||◌, nat_lt, slice_index, slice_index_or, slice_set}
-use Rattle.std.proofs.lemmas.Bool.Decides.{nat_tests}
-use Rattle.uz_core.specs.Core.{Core, register, with_register}
-use Rattle.uz_core.specs.CoreRange.{IsCore}
-use Rattle.uz_core.specs.PadLine.{PadHistory}
-use Rattle.uz_core.specs.Turn.{State}
-use Rattle.uz_schedule.specs.Ends.{Ends}
-use Rattle.uz_schedule.specs.declared.certificate.Cert.{Cert}
-use Rattle.uz_schedule.specs.declared.facts.Val.{Val}
-use Rattle.uz_schedule.specs.declared.header.Head.{Head}
-use Rattle.uz_schedule.specs.declared.states.Instance.{Instance}
-use Rattle.uz_range.specs.Answers.{ends}
-use Rattle.uz_range.specs.Containment.{IsWithin}
-use Rattle.uz_transfer.specs.Narrowed.{left_of}
-use Rattle.uz_transfer.specs.Values.{known_byte, span_of, value_at}
-use Rattle.uz_rules.specs.CoreMeets.{CoreMeets}
+use Rattle.uz_rules.proofs.Common.{◌∙◌, set-set, set-get_or, and_parts, ◌-◌, ◌<◌, ◌≤◌, ◌≡◌, ℕ, zero, suc, ◌+◌, Bool, true, false, List}
+use Rattle.uz_rules.proofs.Common.{Option, Some, None, refl, ap, subst, arith, ◌&&◌, ◌||◌, nat_lt, slice_index_or, slice_set, nat_tests}
+use Rattle.uz_rules.proofs.Common.{Core, register, with_register, IsCore, PadHistory, State, Ends, Cert, Val, Head, Instance, ends}
+use Rattle.uz_rules.proofs.Common.{IsWithin, left_of, known_byte, span_of, value_at, CoreMeets, Meets, lies_in_any}
+use Rattle.uz_rules.proofs.CoreKeeps.{within_span, register_byte, val_meets}
 use Rattle.uz_rules.specs.Cover.{all_from, at_value, covered_by, lies_at_few, most_values}
 use Rattle.uz_rules.specs.CoverMeets.{CoverMeets, MeetsOne}
-use Rattle.uz_rules.specs.Meets.{Meets}
-use Rattle.uz_rules.specs.Successors.{lies_in_any}
 use Rattle.uz_rules.proofs.AskedLaws.{left_meets}
-use Rattle.uz_rules.proofs.CoreKeeps.{in_span, register_byte, val_meets}
 
 -- Numbers one by one
 
@@ -43,45 +27,28 @@ all_more test k last h t =
     let n : suc last - suc k ≡ last - k = omega arith in
     rw (s, n, e, t) refl
 
-and_first : (a b : Bool) → (a && b) ≡ true → a ≡ true
-and_first true b e = refl
-and_first false b e = absurd cc
-
-and_second : (a b : Bool) → (a && b) ≡ true → b ≡ true
-and_second true b e = e
-and_second false b e = absurd cc
-
 -- what holds of all holds of the one that is j on
 all_tells : (test : ℕ → Bool) (k n j : ℕ) → j < n → all_from test k n ≡ true → test (k + j) ≡ true
 unfolding all_from
 all_tells test k zero j h e = absurd (omega arith)
 all_tells test k (suc n) zero h e =
     let s : k ≡ k + 0 = omega arith in
-    subst (λ i. test i ≡ true) s (and_first (test k) (all_from test (suc k) n) e)
+    subst (λ i. test i ≡ true) s (and_parts (test k) (all_from test (suc k) n) e).0
 all_tells test k (suc n) (suc j) h e =
     let s : suc k + j ≡ k + suc j = omega arith in
-    subst (λ i. test i ≡ true) s (all_tells test (suc k) n j (omega arith) (and_second (test k) (all_from test (suc k) n) e))
+    subst (λ i. test i ≡ true) s (all_tells test (suc k) n j (omega arith) (and_parts (test k) (all_from test (suc k) n) e).1)
 
 -- A value that is put, and what stood there again
 
-set_back : {A : Type 0} (xs : List A) (d : ℕ) (x e : A) → slice_set (slice_set xs d x) d (slice_index_or xs d e) ≡ xs
-set_back [] d x e = refl
-set_back (y ∷ ys) zero x e = refl
-set_back (y ∷ ys) (suc d) x e = ap (λ l. y ∷ l) (set_back ys d x e)
-
 pub stands_again : (inst : Instance) (d : ℕ) (v e : Val)
     → record inst { regs = slice_set (slice_set inst.regs d v) d (slice_index_or inst.regs d e) } ≡ inst
-stands_again inst d v e = ap (λ (regs : List Val). record inst { regs = regs }) (set_back inst.regs d v e)
+stands_again inst d v e = ap (λ (regs : List Val). record inst { regs = regs })
+    (set-set inst.regs d v (slice_index_or inst.regs d e) ∙ set-get_or inst.regs d e)
 
 -- A state that meets a result meets it at its own value of a register
 
 same_core : (s : Core) (r : ℕ) → with_register r (register s r) s ≡ s
-same_core s r = ap (λ (regs : List ℕ). record s { registers = regs }) (set_again s.registers r)
-  where
-    set_again : (xs : List ℕ) (d : ℕ) → slice_set xs d (slice_index xs d) ≡ xs
-    set_again [] d = refl
-    set_again (y ∷ ys) zero = refl
-    set_again (y ∷ ys) (suc d) = ap (λ l. y ∷ l) (set_again ys d)
+same_core s r = ap (λ (regs : List ℕ). record s { registers = regs }) (set-get_or s.registers r 0)
 
 own_value_meets : (inst : Instance) (o s : Core) (r : ℕ) → IsCore s → r < 32 → CoreMeets inst o s
     → CoreMeets (at_value r (register s r) inst) o s
@@ -96,8 +63,7 @@ few_meet : (head : Head) (cert : Cert) (next : List ℕ) (r : ℕ) (result : Ins
     → MeetsOne head cert next result o d s
 few_meet head cert next r result o d s h c e meets =
     let v : ℕ = register s.core r in
-    let within : IsWithin v (span_of (value_at result.regs r)) =
-    in_span (value_at result.regs r) o v (register_byte s.core r c) (meets.core.regs r h) in
+    let within : IsWithin v (span_of (value_at result.regs r)) = within_span result o s.core r c h meets.core in
     let own : Instance = at_value r v result in
     record {
       left = left_of own;
@@ -112,7 +78,7 @@ few_meet head cert next r result o d s h c e meets =
         let near : v - e.lo < suc e.hi - e.lo = omega (arith, w.above, w.below) in
         subst (λ n. lies_in_any cert next (at_value r n result) ≡ true) place
         (all_tells (λ n. lies_in_any cert next (at_value r n result)) e.lo (suc e.hi - e.lo) (v - e.lo) near
-        (and_second (nat_lt (e.hi - e.lo) most_values) _ all))
+        (and_parts (nat_lt (e.hi - e.lo) most_values) _ all).1)
 
 pub cover_meets : CoverMeets
 cover_meets head cert next split result o d s c e meets = by_lies (lies_in_any cert next result) refl e

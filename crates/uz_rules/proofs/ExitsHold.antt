@@ -1,51 +1,23 @@
 -- An instruction goes where one of the abstract step's exits leads, in that exit's clocks.
-use Rattle.std.proofs.Common.{◌≡◌, ◌≢◌, inl, inr, ℕ, zero, suc, ◌+◌, ◌-◌, ◌*◌, ◌%◌, ◌<◌, ◌≤◌, Bool, true, false, not, if◌then◌else◌, nat_eq}
-use Rattle.std.proofs.Common.{nat_lt, nat_le, Option, Some, None, List, [], ◌∷◌, ◌++◌, map, Contains, length, refl, sym, ◌∙◌, ap, subst}
-use Rattle.std.proofs.Common.{arith}
-use Rattle.std.specs.Prelude.{slice_index, slice_index_or, ◌&&◌, ◌||◌}
-use Rattle.std.specs.Ordering.{nat_cmp}
-use Rattle.std.specs.FinMap.{FinMap}
-use Rattle.std.proofs.lemmas.Bool.Decides.{eqb_tells, nat_tests}
-use Rattle.std.proofs.lemmas.List.Elements.{Contains-append_left, Contains-append_right}
-use Rattle.avr_table.specs.declared.Outcome.{Outcome}
-use Rattle.avr_table.specs.declared.Outcome.TheVariants.{Next, Taken, SkipOne, SkipTwo}
+use Rattle.uz_rules.proofs.Common.{◌≡◌, ◌≢◌, inl, inr, ℕ, zero, suc, ◌+◌, ◌-◌, ◌*◌, ◌%◌, ◌<◌, ◌≤◌, Bool, true, false, not, if◌then◌else◌}
+use Rattle.uz_rules.proofs.Common.{nat_eq, nat_lt, nat_le, Option, Some, None, List, [], ◌∷◌, ◌++◌, map, Contains, length, refl, sym, ◌∙◌}
+use Rattle.uz_rules.proofs.Common.{ap, subst, arith, slice_index, slice_index_or, ◌&&◌, ◌||◌, nat_cmp, FinMap, eqb_tells, nat_tests}
+use Rattle.uz_rules.proofs.Common.{Outcome, Next, Taken, Equal, RegisterBit, IoBit, Effect, Branch, SkipIf, Jump, Return, bit_is_set, Core}
+use Rattle.uz_rules.proofs.Common.{register, pair, following_pc, load_addresses, loaded_bytes, bit_equals, test_holds, outcome_of, next_pc}
+use Rattle.uz_rules.proofs.Common.{skipped_words, IsCore, SkipTestFits, EffectFits, PadWiring, Space, plain_byte, space_loads, Ends, Bit}
+use Rattle.uz_rules.proofs.Common.{Zero, One, Free, OldBit, Val, Range, Old, OldFlags, Head, Instance, is_single, IsWithin, bst_answer}
+use Rattle.uz_rules.proofs.Common.{only, bst_covers, span_of, value_at, pair_range, ValueHolds, FlagHolds, CoreMeets, is_main, depth_of}
+use Rattle.uz_rules.proofs.Common.{slot_value, bit_of_bool, target_fails, is_known_slot, fail_of, exits_of, returns_from_interrupt}
+use Rattle.uz_rules.proofs.Common.{and_parts, not-false, Contains-append_left, Contains-append_right}
+use Rattle.uz_rules.proofs.RegisterClasses.{bool_holds}
+use Rattle.uz_rules.proofs.CoreKeeps.{within_span, pair_holds}
 use Rattle.uz_core.specs.declared.machine.SkipTest.{SkipTest}
-use Rattle.uz_core.specs.declared.machine.SkipTest.TheVariants.{Equal, RegisterBit, IoBit}
 use Rattle.uz_core.specs.declared.machine.JumpTarget.TheVariants.{Absolute, Relative, Indirect}
-use Rattle.uz_core.specs.declared.machine.Effect.{Effect}
-use Rattle.uz_core.specs.declared.machine.Effect.TheVariants.{NoOperation, Branch, SkipIf, Jump, Return}
-use Rattle.uz_core.specs.Arithmetic.{bit_is_set}
-use Rattle.uz_core.specs.Core.{Core, register, pair, following_pc, load_addresses, loaded_bytes, bit_equals, test_holds, outcome_of}
-use Rattle.uz_core.specs.Core.{next_pc, skipped_words}
-use Rattle.uz_core.specs.CoreRange.{IsCore}
-use Rattle.uz_core.specs.OperandRanges.{SkipTestFits, EffectFits}
-use Rattle.uz_core.specs.Space.{PadWiring, Space, plain_byte, space_loads}
-use Rattle.uz_schedule.specs.Ends.{Ends}
-use Rattle.uz_schedule.specs.declared.facts.Bit.{Bit}
-use Rattle.uz_schedule.specs.declared.facts.Bit.TheVariants.{Zero, One, Free, Old as OldBit}
-use Rattle.uz_schedule.specs.declared.facts.Val.{Val}
-use Rattle.uz_schedule.specs.declared.facts.Val.TheVariants.{Range, Old, OldFlags}
-use Rattle.uz_schedule.specs.declared.header.Head.{Head}
-use Rattle.uz_schedule.specs.declared.states.Instance.{Instance}
-use Rattle.uz_range.specs.Answers.{is_single}
-use Rattle.uz_range.specs.Containment.{IsWithin}
-use Rattle.uz_range.specs.Rules.{bst_answer}
-use Rattle.uz_range.proofs.ShapesCover.{only}
-use Rattle.uz_range.proofs.PairsCover.{bst_covers}
-use Rattle.uz_transfer.specs.Values.{span_of, value_at, pair_range}
-use Rattle.uz_rules.specs.CoreMeets.{ValueHolds, FlagHolds, CoreMeets}
-use Rattle.uz_transfer.specs.Kinds.{is_main}
-use Rattle.uz_transfer.specs.Memory.{depth_of, slot_value}
-use Rattle.uz_transfer.specs.Transfer.{bit_of_bool}
 use Rattle.uz_transfer.specs.Exits.{decided, flag_of_kind, are_equal, test_decides, choices, skip_outcome, outcomes, numbers_from, skipped}
 use Rattle.uz_transfer.specs.Exits.{targets}
-use Rattle.uz_transfer.specs.Refusals.{target_fails, is_known_slot, fail_of}
-use Rattle.uz_transfer.specs.Step.{exits_of}
-use Rattle.uz_core.specs.Core.{returns_from_interrupt}
-use Rattle.uz_rules.proofs.CoreKeeps.{in_span, register_byte, pair_holds}
 use Rattle.uz_rules.proofs.CoreSteps.{told}
 use Rattle.uz_rules.proofs.LoadClasses.{ram_loaded, slot_holds}
-use Rattle.uz_rules.proofs.Classes.{Before, low_room, unless_none, not_false}
+use Rattle.uz_rules.proofs.Classes.{Before, low_room, unless_none}
 
 -- Elements
 
@@ -101,10 +73,6 @@ chosen (Some false) test other h = let e : test ≡ false = h false refl in rw e
 chosen None true other h = there other Next (other ∷ []) (here other [])
 chosen None false other h = here Next (other ∷ [])
 
-bool_holds : (t before : Bool) → FlagHolds (bit_of_bool t) before t
-bool_holds true before = refl
-bool_holds false before = refl
-
 -- a flag that a branch asks, I among them
 kind_flag : (inst : Instance) (o core : Core) (flag : ℕ) → flag < 8 → CoreMeets inst o core → bit_is_set core.sreg 7 ≡ is_main inst.kind
     → FlagHolds (flag_of_kind inst flag) (bit_is_set o.sreg flag) (bit_is_set core.sreg flag)
@@ -134,14 +102,11 @@ test_tells (Equal d r) inst o core loaded u fits c m e = by_case (nat_eq d r) re
         (span_of (value_at inst.regs r))) ≡ Some u → nat_eq (register core d) (register core r) ≡ u
     by_case true p e = let z : true ≡ u = cc in let s : d ≡ r = grind (arith, nat_tests) in let t : register core d ≡ register core r =
         ap (register core) s in (let n : nat_eq (register core d) (register core r) ≡ true = grind (arith, nat_tests) in n) ∙ z
-    by_case false p e =
-        equal_tells _ _ _ _ u (in_span (value_at inst.regs d) o (register core d) (register_byte core d c) (m.regs d fits.0))
-        (in_span (value_at inst.regs r) o (register core r) (register_byte core r c) (m.regs r fits.1)) e
+    by_case false p e = equal_tells _ _ _ _ u (within_span inst o core d c fits.0 m) (within_span inst o core r c fits.1 m) e
 test_tells (RegisterBit r b set) inst o core loaded u fits c m e =
     is_equals (register core r) b set
     ∙ decides_tells (bst_answer (span_of (value_at inst.regs r)) b) false (bit_is_set (register core r) b) set u
-    (told _ false _ (bst_covers (span_of (value_at inst.regs r)) b (register core r) (in_span (value_at inst.regs r) o (register core r)
-    (register_byte core r c) (m.regs r fits.0)))) e
+    (told _ false _ (bst_covers (span_of (value_at inst.regs r)) b (register core r) (within_span inst o core r c fits.0 m))) e
 test_tells (IoBit at b set) inst o core loaded u fits c m e = absurd cc
 
 pub outcome_holds : (e : Effect) (image : FinMap nat_cmp ℕ) (words following : ℕ) (loaded : List ℕ) (inst : Instance) (o core : Core)
@@ -155,7 +120,6 @@ outcome_holds (SkipIf test) image words following loaded inst o core fits c m en
     (sym f)
     (chosen (test_decides test inst) (test_holds test loaded core) (skip_outcome image (following_pc words core))
     (λ u e. test_tells test inst o core loaded u fits c m e))
-outcome_holds NoOperation image words following loaded inst o core fits c m enabled f = here Next []
 outcome_holds e image words following loaded inst o core fits c m enabled f = here Next []
 
 -- Program counters
@@ -170,19 +134,13 @@ number_in a (suc n) x h k =
 
 skipped_same : (o : Outcome) → skipped o ≡ skipped_words o
 skipped_same Next = refl
-skipped_same Taken = refl
-skipped_same SkipOne = refl
-skipped_same SkipTwo = refl
+skipped_same o = refl
 
 -- a value that is known
 slot_known : (v : Val) (o : Core) (x : ℕ) → is_known_slot v ≡ true → ValueHolds v o x → (span_of v).lo ≡ x
 slot_known (Range e) o x k h = only e x k h
 slot_known (Old r) o x k h = absurd cc
 slot_known OldFlags o x k h = absurd cc
-
-and_true : (a b : Bool) → (a && b) ≡ true → (a ≡ true) × (b ≡ true)
-and_true true b e = (refl, e)
-and_true false b e = absurd cc
 
 -- where a return goes
 return_pc : {P : Type 0} (w : PadWiring P) (head : Head) (late d : ℕ) (inst : Instance) (o core : Core) (s : Space P) → Before head inst o d
@@ -191,8 +149,8 @@ return_pc : {P : Type 0} (w : PadWiring P) (head : Head) (late d : ℕ) (inst : 
     ≡ (slice_index (loaded_bytes (space_loads w) core late s (load_addresses (Return false) core)) 1 + 256 * slice_index
     (loaded_bytes (space_loads w) core late s (load_addresses (Return false) core)) 0) % 32768
 return_pc w head late d inst o core s b fail =
-    let all = and_true (nat_le 2 (depth_of inst)) _ (not_false _ (unless_none _ _ _ fail).0) in
-    let known = and_true (is_known_slot (slot_value 1 inst)) (is_known_slot (slot_value 2 inst)) all.1 in
+    let all = and_parts (nat_le 2 (depth_of inst)) _ (not-false _ (unless_none _ _ _ fail).0) in
+    let known = and_parts (is_known_slot (slot_value 1 inst)) (is_known_slot (slot_value 2 inst)) all.1 in
     let deep : 2 ≤ depth_of inst = (let e = all.0 in grind (arith, nat_tests)) in
     let low = low_room head inst o d core s b in
     let one : (core.sp + 1) % 65536 ≡ core.sp + 1 = omega (arith, b.memory.depth, b.fits.high, deep) in
@@ -222,12 +180,6 @@ pub pc_holds : {P : Type 0} (w : PadWiring P) (e : Effect) (out : Outcome) (head
     → Contains (targets e out following inst) (next_pc e out words (loaded_bytes (space_loads w) core late s (load_addresses e core)) core)
 pc_holds w (Branch flag set offset) Taken head words following late d inst o core s fits b f back fail =
     one_pc _ _ (ap (λ n. (n + offset) % 32768) f)
-pc_holds w (Branch flag set offset) Next head words following late d inst o core s fits b f back fail = one_pc following
-    (following_pc words core) f
-pc_holds w (Branch flag set offset) SkipOne head words following late d inst o core s fits b f back fail = one_pc following
-    (following_pc words core) f
-pc_holds w (Branch flag set offset) SkipTwo head words following late d inst o core s fits b f back fail = one_pc following
-    (following_pc words core) f
 pc_holds w (SkipIf test) out head words following late d inst o core s fits b f back fail =
     one_pc _ _ (ap (λ n. (n + skipped out) % 32768) f ∙ ap (λ n. (following_pc words core + n) % 32768) (skipped_same out))
 pc_holds w (Jump (Absolute k) call) out head words following late d inst o core s fits b f back fail = here k []
@@ -247,7 +199,6 @@ pc_holds w (Return true) out head words following late d inst o core s fits b f 
 pc_holds w (Return false) out head words following late d inst o core s fits b f back fail =
     subst (λ n. Contains (((span_of (slot_value 2 inst)).lo + 256 * (span_of (slot_value 1 inst)).lo) % 32768 ∷ []) n)
     (return_pc w head late d inst o core s b fail) (here _ [])
-pc_holds w NoOperation out head words following late d inst o core s fits b f back fail = one_pc following (following_pc words core) f
 pc_holds w e out head words following late d inst o core s fits b f back fail = one_pc following (following_pc words core) f
 
 -- an exit of the step

@@ -1,12 +1,6 @@
 -- What is known of a byte at a place, by the fact that stands there.
-use Rattle.std.proofs.Common.{◌<◌, ◌≡◌, ℕ, List, length, map}
-use Rattle.std.specs.Prelude.{slice_index_or}
-use Rattle.std.proofs.lemmas.List.{get_or-map}
-use Rattle.uz_schedule.specs.declared.facts.Fact.{Fact}
-use Rattle.uz_schedule.specs.declared.facts.Val.TheVariants.{Range}
-use Rattle.uz_schedule.specs.Instances.{val_of, cell_span}
-use Rattle.uz_range.specs.Answers.{ends}
-use Rattle.uz_transfer.specs.Values.{value_at, span_at}
+use Rattle.uz_rules.proofs.Common.{◌<◌, ◌≡◌, ℕ, List, length, map, slice_index_or, Fact, Range, val_of, cell_span, ends, value_at, span_at}
+use Rattle.uz_rules.proofs.Common.{get_or-map}
 
 pub value_of_fact : (l c : ℕ) (facts : List Fact) (i : ℕ) (d : Fact) → i < length facts
     → value_at (map (val_of l c) facts) i ≡ val_of l c (slice_index_or facts i d)

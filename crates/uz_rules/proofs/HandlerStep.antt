@@ -1,95 +1,47 @@
 -- Containment of a handler's instruction: the timer goes on with the instance's clock, OCR1A and TEMP.
-use Rattle.std.proofs.Common.{◌≡◌, ◌⊎◌, inl, inr, ℕ, zero, suc, ◌+◌, ◌%◌, ◌<◌, ◌≤◌, Bool, true, false, not, if◌then◌else◌, nat_eq}
-use Rattle.std.proofs.Common.{nat_le, nat_lt, Option, None, List, [], ◌∷◌, refl, sym, ◌∙◌, ap, subst, arith}
-use Rattle.std.specs.Prelude.{◌&&◌, ◌||◌, ◌==◌, Contains}
-use Rattle.std.specs.Ordering.{nat_cmp}
-use Rattle.std.specs.FinMap.{FinMap}
-use Rattle.std.proofs.lemmas.Bool.Decides.{nat_tests}
-use Rattle.avr_table.specs.declared.Instr.{Instr}
-use Rattle.avr_table.specs.declared.Instr.TheVariants.{Nop}
-use Rattle.avr_table.specs.declared.Outcome.{Outcome}
-use Rattle.avr_table.specs.declared.Outcome.TheVariants.{Next, Taken, SkipOne, SkipTwo}
-use Rattle.avr_table.specs.Rows.{words_of, clocks_of}
-use Rattle.uz_core.specs.declared.machine.Effect.{Effect}
-use Rattle.uz_core.specs.declared.machine.Effect.TheVariants.{NoOperation, Store}
-use Rattle.uz_core.specs.Arithmetic.{bit_is_set}
-use Rattle.uz_core.specs.Effects.{effect_of}
-use Rattle.uz_core.specs.Core.{Core, following_pc, load_addresses, sample_clock, loaded_bytes, content_after_loads, outcome_of}
-use Rattle.uz_core.specs.Timer.{is_counting, matches_within, timer_after}
-use Rattle.uz_core.specs.PadLine.{PadHistory}
-use Rattle.uz_core.specs.Space.{history_wiring, space_after, space_loads}
-use Rattle.uz_core.specs.Turn.{State}
-use Rattle.uz_core.specs.StateRange.{IsState}
-use Rattle.uz_core.specs.OperandRanges.{EffectFits}
-use Rattle.uz_core.proofs.EffectRanges.{effect_fits}
-use Rattle.uz_range.specs.Containment.{IsWithin}
-use Rattle.uz_schedule.specs.Lines.{Lines, clock_after}
-use Rattle.uz_schedule.specs.declared.kinds.Kind.{Kind}
-use Rattle.uz_schedule.specs.declared.kinds.Kind.TheVariants.{Handler}
-use Rattle.uz_schedule.specs.declared.header.Head.{Head}
-use Rattle.uz_schedule.specs.declared.lines.EventKind.{EventKind}
-use Rattle.uz_schedule.specs.declared.states.Instance.{Instance}
-use Rattle.uz_transfer.specs.declared.step.Exit.{Exit}
-use Rattle.uz_transfer.specs.Kinds.{is_main, is_handler}
-use Rattle.uz_transfer.specs.Refusals.{fail_of}
-use Rattle.uz_transfer.specs.Step.{clears_flag, ends_line, following_of, sampled_of, successor}
-use Rattle.uz_transfer.specs.Exits.{each_exit}
-use Rattle.uz_transfer.specs.InTime.{keeps_time, sets_ahead, is_in_time, clock_holds}
+use Rattle.uz_rules.proofs.Common.{or_cases, ◌≡◌, inl, inr, ℕ, zero, suc, ◌+◌, ◌%◌, ◌<◌, ◌≤◌, Bool, true, false, not, if◌then◌else◌, nat_eq}
+use Rattle.uz_rules.proofs.Common.{nat_le, nat_lt, Option, None, List, [], ◌∷◌, refl, sym, ◌∙◌, ap, subst, arith, ◌&&◌, ◌||◌, ◌==◌}
+use Rattle.uz_rules.proofs.Common.{Contains, nat_cmp, FinMap, nat_tests, Instr, Nop, Outcome, Next, Taken, SkipOne, SkipTwo, words_of}
+use Rattle.uz_rules.proofs.Common.{clocks_of, Effect, Store, bit_is_set, effect_of, Core, following_pc, load_addresses, sample_clock}
+use Rattle.uz_rules.proofs.Common.{loaded_bytes, outcome_of, is_counting, matches_within, timer_after, PadHistory, history_wiring}
+use Rattle.uz_rules.proofs.Common.{space_after, space_loads, State, IsState, EffectFits, effect_fits, IsWithin, Lines, clock_after, Kind}
+use Rattle.uz_rules.proofs.Common.{Handler, Head, EventKind, Instance, Exit, is_main, is_handler, fail_of, clears_flag, ends_line}
+use Rattle.uz_rules.proofs.Common.{following_of, sampled_of, successor, TimerMeets, TimerCounts, Meets, HandlerContained, and_parts}
+use Rattle.uz_rules.proofs.Containment.{content_of, plan_of, state_of, outcome_at, exit_at, alone_before, TimePart, outside_contained}
+use Rattle.uz_transfer.specs.InTime.{clock_holds, keeps_time, sets_ahead, is_in_time}
 use Rattle.uz_transfer.specs.Timer.{stores_top, top_after, temp_after}
-use Rattle.uz_rules.specs.Meets.{TimerMeets, TimerCounts, Meets}
-use Rattle.uz_rules.specs.OneStep.{HandlerContained}
+use Rattle.uz_transfer.specs.Exits.{each_exit}
 use Rattle.uz_rules.proofs.Classes.{Before}
 use Rattle.uz_rules.proofs.ExitsHold.{exit_holds}
 use Rattle.uz_rules.proofs.Timing.{loads_beside, stores_beside, later, OnTime, timed, sampled_count, sampled_low, stays_below}
 use Rattle.uz_rules.proofs.TopAndTemp.{temp_loads, loads_temp, stores_known}
-use Rattle.uz_rules.proofs.Containment.{plan_of, state_of, outcome_at, exit_at, alone_before, TimePart, outside_contained}
 
 -- a row's loads sample before its end, whatever the outcome
-sample_next : (i : Instr) → nat_le (sample_clock (effect_of i) (clocks_of i)) (clocks_of i Next) ≡ true
-sample_next Nop = refl
-sample_next i = refl
-
-sample_taken : (i : Instr) → nat_le (sample_clock (effect_of i) (clocks_of i)) (clocks_of i Taken) ≡ true
-sample_taken Nop = refl
-sample_taken i = refl
-
-sample_one : (i : Instr) → nat_le (sample_clock (effect_of i) (clocks_of i)) (clocks_of i SkipOne) ≡ true
-sample_one Nop = refl
-sample_one i = refl
-
-sample_two : (i : Instr) → nat_le (sample_clock (effect_of i) (clocks_of i)) (clocks_of i SkipTwo) ≡ true
-sample_two Nop = refl
-sample_two i = refl
-
 sample_within : (i : Instr) (out : Outcome) → nat_le (sample_clock (effect_of i) (clocks_of i)) (clocks_of i out) ≡ true
-sample_within i Next = sample_next i
-sample_within i Taken = sample_taken i
-sample_within i SkipOne = sample_one i
-sample_within i SkipTwo = sample_two i
-
-and_true : (a b : Bool) → (a && b) ≡ true → (a ≡ true) × (b ≡ true)
-and_true true b e = (refl, e)
-and_true false b e = absurd cc
-
-or_either : (a b : Bool) → (a || b) ≡ true → (a ≡ true) ⊎ (b ≡ true)
-or_either true b e = inl refl
-or_either false b e = inr e
+sample_within Nop Next = refl
+sample_within i Next = refl
+sample_within Nop Taken = refl
+sample_within i Taken = refl
+sample_within Nop SkipOne = refl
+sample_within i SkipOne = refl
+sample_within Nop SkipTwo = refl
+sample_within i SkipTwo = refl
 
 -- what holds of each exit holds of one
 pub each_holds : (test : Exit → Bool) (exits : List Exit) (exit : Exit) → each_exit test exits ≡ true → Contains exits exit
     → test exit ≡ true
 each_holds test [] exit e (i, below, is) = absurd (omega (arith, below))
 each_holds test (x ∷ exits) exit e (zero, below, is) =
-    let same : x ≡ exit = is in ap test (sym same) ∙ (and_true (test x) (each_exit test exits) e).0
+    let same : x ≡ exit = is in ap test (sym same) ∙ (and_parts (test x) (each_exit test exits) e).0
 each_holds test (x ∷ exits) exit e (suc i, below, is) =
-    each_holds test exits exit (and_true (test x) (each_exit test exits) e).1 (i, omega (arith, below), is)
+    each_holds test exits exit (and_parts (test x) (each_exit test exits) e).1 (i, omega (arith, below), is)
 
 pub on_time : (clock length top c : ℕ) → (nat_eq (suc top) length || (nat_le (clock + c) top && nat_lt (clock + c) length)) ≡ true
     → OnTime clock length top c
-on_time clock length top c e = elim (or_either (nat_eq (suc top) length) _ e) [
+on_time clock length top c e = elim (or_cases (nat_eq (suc top) length) _ e) [
   | inl f ↦ inl (grind (arith, nat_tests))
   | inr b ↦
-      let both = and_true (nat_le (clock + c) top) (nat_lt (clock + c) length) b in
+      let both = and_parts (nat_le (clock + c) top) (nat_lt (clock + c) length) b in
       let first = both.0 in
       let second = both.1 in
       inr (grind (arith, nat_tests), grind (arith, nat_tests))
@@ -97,7 +49,6 @@ on_time clock length top c e = elim (or_either (nat_eq (suc top) length) _ e) [
 
 other_top : (e : Effect) (inst : Instance) → stores_top e inst ≡ false → top_after e inst ≡ inst.top
 other_top (Store to r) inst f = rw f refl
-other_top NoOperation inst f = refl
 other_top e inst f = refl
 
 -- TCNT1 isn't above OCR1A after the stores
@@ -118,8 +69,8 @@ passed : (lines : Lines) (inst : Instance) (e : Effect) (exits : List Exit) (exi
     → clock_holds lines e inst exits ≡ true → Contains exits exit → Passed lines inst e exit
 passed lines inst e exits exit k h is =
     let all : each_exit (λ x. is_in_time lines e inst x) exits ≡ true = rw k at h in
-    let first = and_true (keeps_time lines inst exit) _ (each_holds (λ x. is_in_time lines e inst x) exits exit all is) in
-    record { keeps = first.0; sets = (and_true (sets_ahead lines e inst exit) _ first.1).0 }
+    let first = and_parts (keeps_time lines inst exit) _ (each_holds (λ x. is_in_time lines e inst x) exits exit all is) in
+    record { keeps = first.0; sets = (and_parts (sets_ahead lines e inst exit) _ first.1).0 }
 
 time_step : (head : Head) (lines : Lines) (inst : Instance) (o : Core) (d : ℕ) (s : State PadHistory) (e : Effect) (words : ℕ)
     (clocks : Outcome → ℕ) (event : Option EventKind) → inst.kind ≡ Handler → EffectFits e → Before head inst o d s.core s.space
@@ -136,17 +87,12 @@ time_step head lines inst o d s e words clocks event kind fits b m state low lon
     let on_time_is : OnTime inst.clock (lines.length inst.line) inst.top (clocks (outcome_at e words clocks s)) =
     on_time inst.clock (lines.length inst.line) inst.top (clocks (outcome_at e words clocks s)) pass.keeps in
     let loaded = loads_beside history_wiring (sample_clock e clocks) s.space (load_addresses e s.core) in
-    let counting : is_counting (content_after_loads (space_loads history_wiring) (sample_clock e clocks) s.space
-    (load_addresses e s.core)).timer ≡ true =
-    ap (λ n. n % 32 == 9 && (content_after_loads (space_loads history_wiring) (sample_clock e clocks) s.space
-    (load_addresses e s.core)).timer.control_a % 4 == 0) loaded.control_b
+    let counting : is_counting (content_of e clocks s).timer ≡ true =
+    ap (λ n. n % 32 == 9 && (content_of e clocks s).timer.control_a % 4 == 0) loaded.control_b
     ∙ (ap (λ n. s.space.timer.control_b % 32 == 9 && n % 4 == 0) loaded.control_a ∙ ticks.0) in
-    let on = later (clocks (outcome_at e words clocks s)) (content_after_loads (space_loads history_wiring) (sample_clock e clocks) s.space
-    (load_addresses e s.core)).timer counting in
-    let top_before : (content_after_loads (space_loads history_wiring) (sample_clock e clocks) s.space (load_addresses e s.core)).timer.top
-    ≡ inst.top = loaded.top ∙ meets.2 in
-    let time = timed inst.clock (lines.length inst.line) (clocks (outcome_at e words clocks s))
-    (content_after_loads (space_loads history_wiring) (sample_clock e clocks) s.space (load_addresses e s.core)).timer
+    let on = later (clocks (outcome_at e words clocks s)) (content_of e clocks s).timer counting in
+    let top_before : (content_of e clocks s).timer.top ≡ inst.top = loaded.top ∙ meets.2 in
+    let time = timed inst.clock (lines.length inst.line) (clocks (outcome_at e words clocks s)) (content_of e clocks s).timer
     (loaded.count ∙ meets.0) low (omega (arith, few, long))
     (subst (λ n. OnTime inst.clock (lines.length inst.line) n (clocks (outcome_at e words clocks s))) (sym top_before) on_time_is) in
     let now = later (sample_clock e clocks) s.space.timer ticks.0 in
@@ -160,11 +106,9 @@ time_step head lines inst o d s e words clocks event kind fits b m state low lon
     let temp = loads_temp history_wiring e head (sample_clock e clocks) (sampled_of (lines.length inst.line) e clocks inst) d inst o s.core
     s.space fits b meets.3 state.space.timer.temp sampled (omega (arith, small, meets.2, state.space.timer.top)) in
     let stored = stores_beside history_wiring e head words d inst o s.core s.space (space_after (clocks (outcome_at e words clocks s))
-    (content_after_loads (space_loads history_wiring) (sample_clock e clocks) s.space (load_addresses e s.core))) fits
-    (ap (λ k. is_main k || is_handler k) kind) b fine in
+    (content_of e clocks s)) fits (ap (λ k. is_main k || is_handler k) kind) b fine in
     let known = stores_known e head d (sampled_of (lines.length inst.line) e clocks inst) inst o s.core s.space
-    (timer_after (clocks (outcome_at e words clocks s)) (content_after_loads (space_loads history_wiring) (sample_clock e clocks) s.space
-    (load_addresses e s.core)).timer) fits handler b fine (on.top ∙ top_before)
+    (timer_after (clocks (outcome_at e words clocks s)) (content_of e clocks s).timer) fits handler b fine (on.top ∙ top_before)
     (subst (λ n. IsWithin n (temp_loads (sampled_of (lines.length inst.line) e clocks inst) e inst)) (sym on.temp) temp) in
     let count_is : (state_of e words clocks s).space.timer.count ≡ clock_after lines inst.line
     (inst.clock + clocks (outcome_at e words clocks s)) = stored.count ∙ (on.count ∙ time.count) in
@@ -174,9 +118,8 @@ time_step head lines inst o d s e words clocks event kind fits b m state low lon
       timer = subst (λ k. TimerMeets k (placed_as k) (state_of e words clocks s).space.timer) (sym kind) (
         count_is,
         stored.matched ∙ ap (λ x. not (clears_flag e inst) && x)
-            (on.matched ∙ (ap (λ x. x || matches_within (content_after_loads (space_loads history_wiring) (sample_clock e clocks) s.space
-            (load_addresses e s.core)).timer.count (content_after_loads (space_loads history_wiring) (sample_clock e clocks) s.space
-            (load_addresses e s.core)).timer.top (clocks (outcome_at e words clocks s))) (loaded.matched ∙ meets.1)
+            (on.matched ∙ (ap (λ x. x || matches_within (content_of e clocks s).timer.count (content_of e clocks s).timer.top
+            (clocks (outcome_at e words clocks s))) (loaded.matched ∙ meets.1)
             ∙ ap (λ x. inst.pending || x) time.ends)),
         top_is,
         subst (λ n. IsWithin n (temp_after (sampled_of (lines.length inst.line) e clocks inst) e inst)) (sym stored.temp) known.temp,

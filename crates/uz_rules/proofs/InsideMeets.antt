@@ -1,59 +1,27 @@
 -- A state that meets an instance meets each in which it lies.
-use Rattle.std.proofs.Common.{◌%◌, sym, not, ◌≡◌, ◌⊎◌, inl, inr, ℕ, zero, suc, ◌+◌, ◌-◌, ◌<◌, ◌≤◌, Bool, true, false, nat_eq, nat_le, Some}
-use Rattle.std.proofs.Common.{List, [], ◌∷◌, length, refl, ◌∙◌, ap, subst, arith}
-use Rattle.std.specs.Prelude.{◌&&◌, ◌||◌}
-use Rattle.std.specs.List.{AllByRecursion}
-use Rattle.std.proofs.lemmas.Bool.{eq-eqb}
-use Rattle.std.proofs.lemmas.Bool.Decides.{eqb_tells, nat_tests}
-use Rattle.uz_core.specs.Core.{Core, register}
-use Rattle.uz_core.specs.CoreRange.{IsByte, IsCore}
+use Rattle.uz_rules.proofs.Common.{get_or_past, eqb-true, cases_lt, ◌%◌, sym, not, ◌≡◌, inl, inr, ℕ, zero, suc, ◌+◌, ◌-◌, ◌<◌, ◌≤◌, Bool}
+use Rattle.uz_rules.proofs.Common.{true, false, nat_eq, nat_le, Some, List, length, refl, ◌∙◌, ap, subst, arith, ◌&&◌, AllByRecursion}
+use Rattle.uz_rules.proofs.Common.{eqb_tells, nat_tests, Core, register, IsByte, IsCore, Ends, Against, Register, Constant, Compared}
+use Rattle.uz_rules.proofs.Common.{Nothing, Pair, Result, PairResult, Value, Kind, Main, Handler, Alone, Bit, Zero, One, Free, OldBit, Val}
+use Rattle.uz_rules.proofs.Common.{Range, Old, OldFlags, Head, Instance, ends, IsWithin, value_at, flag_at, pair_at, span_at, ComparedHolds}
+use Rattle.uz_rules.proofs.Common.{ValueHolds, FlagHolds, CoreMeets, cell_place, MemoryMeets, range_inside, value_inside, flag_inside}
+use Rattle.uz_rules.proofs.Common.{all_below, same_kind, same_place, pairs_inside, contents_inside, is_old_register, TimerMeets}
+use Rattle.uz_rules.proofs.Common.{TimerCounts, is_old, bit_is_set, is_main, same_from_bits_below, ext_get_or, eq-eqb, and_parts, or_right}
 use Rattle.uz_core.proofs.ByteLists.{byte_at}
-use Rattle.uz_schedule.specs.Ends.{Ends}
 use Rattle.uz_schedule.specs.Exact.{exact_compared}
+use Rattle.uz_schedule.specs.declared.facts.Compared.TheVariants.{Byte}
+use Rattle.uz_rules.specs.Inside.{same_bool, registers_inside, flags_inside, slots_inside, cells_inside, SamePlace, PlaceTells, PlaceHolds}
+use Rattle.uz_rules.specs.Inside.{KnownInItself, compared_inside, tells_nothing, InsideKeeps, StateInside, RestoredGives}
+use Rattle.uz_rules.proofs.CoreSteps.{low_seven, same_bit}
+use Rattle.uz_rules.proofs.CoreKeeps.{whole, register_byte}
 use Rattle.uz_schedule.specs.contracts.facts.AgainstPartialEq as operands
 use Rattle.uz_schedule.specs.contracts.facts.ComparedPartialEq as comparisons
-use Rattle.uz_schedule.specs.declared.facts.Against.{Against}
-use Rattle.uz_schedule.specs.declared.facts.Against.TheVariants.{Register, Constant}
-use Rattle.uz_schedule.specs.declared.facts.Compared.{Compared}
-use Rattle.uz_schedule.specs.declared.facts.Compared.TheVariants.{Nothing, Byte, Pair, Result, PairResult, Value}
-use Rattle.uz_schedule.specs.declared.kinds.Kind.{Kind}
-use Rattle.uz_schedule.specs.declared.kinds.Kind.TheVariants.{Main, Handler, Alone}
-use Rattle.uz_schedule.specs.declared.facts.Bit.{Bit}
-use Rattle.uz_schedule.specs.declared.facts.Bit.TheVariants.{Zero, One, Free, Old as OldBit}
-use Rattle.uz_schedule.specs.declared.facts.Val.{Val}
-use Rattle.uz_schedule.specs.declared.facts.Val.TheVariants.{Range, Old, OldFlags}
-use Rattle.uz_schedule.specs.declared.header.Head.{Head}
-use Rattle.uz_schedule.specs.declared.states.Instance.{Instance}
-use Rattle.uz_range.specs.Answers.{ends}
-use Rattle.uz_range.specs.Containment.{IsWithin}
-use Rattle.uz_transfer.specs.Values.{value_at, flag_at, pair_at, span_at}
-use Rattle.uz_rules.specs.ComparedHolds.{ComparedHolds}
-use Rattle.uz_rules.specs.CoreMeets.{ValueHolds, FlagHolds, CoreMeets}
-use Rattle.uz_transfer.specs.Kinds.{cell_place}
-use Rattle.uz_rules.specs.MemoryMeets.{MemoryMeets}
-use Rattle.uz_transfer.specs.Refusals.{range_inside}
-use Rattle.uz_rules.specs.Inside.{value_inside, flag_inside, all_below, same_kind, same_bool, same_place, registers_inside, pairs_inside}
-use Rattle.uz_rules.specs.Inside.{flags_inside, slots_inside, cells_inside, contents_inside, SamePlace, PlaceTells}
-use Rattle.uz_rules.specs.Inside.{PlaceHolds, KnownInItself, compared_inside, tells_nothing}
-use Rattle.uz_rules.specs.Inside.{InsideKeeps, StateInside, is_old_register, RestoredGives}
-use Rattle.uz_rules.specs.Meets.{TimerMeets, TimerCounts}
-use Rattle.uz_transfer.specs.Memory.{is_old}
-use Rattle.uz_core.specs.Arithmetic.{bit_is_set}
-use Rattle.uz_transfer.specs.Kinds.{is_main}
-use Rattle.uz_rules.proofs.CoreSteps.{low_seven, same_bit}
-use Rattle.std.proofs.lemmas.Nat.Bits.{same_from_bits_below}
-use Rattle.std.proofs.lemmas.List.{ext_get_or}
-use Rattle.uz_rules.proofs.CoreKeeps.{whole, register_byte}
-
-and_true : (a b : Bool) → (a && b) ≡ true → (a ≡ true) × (b ≡ true)
-and_true true b e = (refl, e)
-and_true false b e = absurd cc
 
 pub below_tells : (n : ℕ) (test : ℕ → Bool) → all_below n test ≡ true → (k : ℕ) → k < n → test k ≡ true
 unfolding all_below
 below_tells zero test e k h = absurd (omega arith)
 below_tells (suc n) test e k h =
-    let both = and_true (all_below n test) (test n) e in
+    let both = and_parts (all_below n test) (test n) e in
     elim (eqb_tells k n) [
       | inl t ↦ ap test t.1 ∙ both.1
       | inr t ↦ below_tells n test both.0 k (omega (arith, t.1, h))
@@ -61,7 +29,7 @@ below_tells (suc n) test e k h =
 
 within_both : (a b : Ends) (x : ℕ) → range_inside a b ≡ true → IsWithin x a → IsWithin x b
 within_both a b x e h =
-    let both = and_true (nat_le b.lo a.lo) (nat_le a.hi b.hi) e in
+    let both = and_parts (nat_le b.lo a.lo) (nat_le a.hi b.hi) e in
     let low : b.lo ≤ a.lo = (let t = both.0 in grind (arith, nat_tests)) in
     let high : a.hi ≤ b.hi = (let t = both.1 in grind (arith, nat_tests)) in
     record { above = omega (arith, low, h.above); below = omega (arith, high, h.below) }
@@ -72,79 +40,47 @@ val_widens (Old r) (Range b) o x w e h = within_both (ends 0 255) b x e (whole x
 val_widens OldFlags (Range b) o x w e h = within_both (ends 0 255) b x e (whole x w)
 val_widens (Old r) (Old s) o x w e h = let i : r ≡ s = grind (arith, nat_tests) in subst (λ q. x ≡ register o q) i h
 val_widens OldFlags OldFlags o x w e h = h
-val_widens (Range a) (Old s) o x w e h = absurd cc
-val_widens (Range a) OldFlags o x w e h = absurd cc
-val_widens (Old r) OldFlags o x w e h = absurd cc
-val_widens OldFlags (Old s) o x w e h = absurd cc
+val_widens a b o x w e h = absurd cc
 
 bit_widens : (a b : Bit) (before t : Bool) → flag_inside a b ≡ true → FlagHolds a before t → FlagHolds b before t
 bit_widens a Free before t e h = tt
 bit_widens Zero Zero before t e h = h
 bit_widens One One before t e h = h
 bit_widens OldBit OldBit before t e h = h
-bit_widens Zero One before t e h = absurd cc
-bit_widens Zero OldBit before t e h = absurd cc
-bit_widens One Zero before t e h = absurd cc
-bit_widens One OldBit before t e h = absurd cc
-bit_widens Free Zero before t e h = absurd cc
-bit_widens Free One before t e h = absurd cc
-bit_widens Free OldBit before t e h = absurd cc
-bit_widens OldBit Zero before t e h = absurd cc
-bit_widens OldBit One before t e h = absurd cc
+bit_widens a b before t e h = absurd cc
 
 kind_tells : (a b : Kind) → same_kind a b ≡ true → a ≡ b
 kind_tells Main Main e = refl
 kind_tells Handler Handler e = refl
 kind_tells Alone Alone e = refl
-kind_tells Main Handler e = absurd cc
-kind_tells Main Alone e = absurd cc
-kind_tells Handler Main e = absurd cc
-kind_tells Handler Alone e = absurd cc
-kind_tells Alone Main e = absurd cc
-kind_tells Alone Handler e = absurd cc
-
-lt_or : (j n : ℕ) → (j < n) ⊎ (n ≤ j)
-lt_or j zero = inr (omega arith)
-lt_or zero (suc n) = inl (omega arith)
-lt_or (suc j) (suc n) = elim (lt_or j n) [ inl t ↦ inl (omega arith) | inr t ↦ inr (omega arith) ]
-
--- cells past the end of a list are any byte
-past_end : (spans : List Ends) (j : ℕ) → length spans ≤ j → span_at spans j ≡ ends 0 255
-past_end [] j h = refl
-past_end (x ∷ spans) zero h = absurd (omega arith)
-past_end (x ∷ spans) (suc j) h = past_end spans j (omega arith)
+kind_tells a b e = absurd cc
 
 -- Where two instances stand
 
 same_bits : (a b : Bool) → same_bool a b ≡ true → a ≡ b
 same_bits true true e = refl
-same_bits true false e = absurd cc
-same_bits false true e = absurd cc
 same_bits false false e = refl
-
-same_number : (a b : ℕ) → nat_eq a b ≡ true → a ≡ b
-same_number a b e = grind (arith, nat_tests)
+same_bits a b e = absurd cc
 
 pub place_tells : PlaceTells
 place_tells a b e =
-    let p1 = and_true (same_kind a.kind b.kind) _ e in
-    let p2 = and_true (nat_eq a.pc b.pc) _ p1.1 in
-    let p3 = and_true (nat_eq a.line b.line) _ p2.1 in
-    let p4 = and_true (nat_eq a.clock b.clock) _ p3.1 in
-    let p5 = and_true (same_bool a.pending b.pending) _ p4.1 in
+    let p1 = and_parts (same_kind a.kind b.kind) _ e in
+    let p2 = and_parts (nat_eq a.pc b.pc) _ p1.1 in
+    let p3 = and_parts (nat_eq a.line b.line) _ p2.1 in
+    let p4 = and_parts (nat_eq a.clock b.clock) _ p3.1 in
+    let p5 = and_parts (same_bool a.pending b.pending) _ p4.1 in
     record {
       kind = kind_tells a.kind b.kind p1.0;
-      pc = same_number a.pc b.pc p2.0;
-      line = same_number a.line b.line p3.0;
-      clock = same_number a.clock b.clock p4.0;
+      pc = eqb-true a.pc b.pc p2.0;
+      line = eqb-true a.line b.line p3.0;
+      clock = eqb-true a.clock b.clock p4.0;
       pending = same_bits a.pending b.pending p5.0;
-      top = same_number a.top b.top p5.1;
+      top = eqb-true a.top b.top p5.1;
     }
 
 kind_itself : (k : Kind) → same_kind k k ≡ true
 kind_itself Main = refl
-kind_itself Handler = refl
-kind_itself Alone = refl
+kind_itself k = refl
 
 bit_itself : (b : Bool) → same_bool b b ≡ true
 bit_itself true = refl
@@ -173,11 +109,11 @@ pub record ContentsInside (a b : Instance) : Type 0 where
 
 pub contents_tell : (a b : Instance) → contents_inside a b ≡ true → ContentsInside a b
 contents_tell a b e =
-    let two = and_true (slots_inside a.stack.items b.stack.items) _ e in
-    let three = and_true (cells_inside a.cells.items b.cells.items) _ two.1 in
-    let four = and_true (flags_inside a.flags b.flags) _ three.1 in
-    let five = and_true (compared_inside a.compared b.compared) _ four.1 in
-    let six = and_true (pairs_inside a.pairs b.pairs) _ five.1 in
+    let two = and_parts (slots_inside a.stack.items b.stack.items) _ e in
+    let three = and_parts (cells_inside a.cells.items b.cells.items) _ two.1 in
+    let four = and_parts (flags_inside a.flags b.flags) _ three.1 in
+    let five = and_parts (compared_inside a.compared b.compared) _ four.1 in
+    let six = and_parts (pairs_inside a.pairs b.pairs) _ five.1 in
     record { slots = two.0; cells = three.0; flags = four.0; compared = five.0; pairs = six.0; registers = six.1 }
 
 below_all : (n : ℕ) (test : ℕ → Bool) → ((k : ℕ) → test k ≡ true) → all_below n test ≡ true
@@ -195,9 +131,7 @@ value_itself OldFlags = refl
 
 flag_itself : (f : Bit) → flag_inside f f ≡ true
 flag_itself Zero = refl
-flag_itself One = refl
-flag_itself Free = refl
-flag_itself OldBit = refl
+flag_itself f = refl
 
 -- The last comparison
 
@@ -216,20 +150,12 @@ compared_equal (Result d k old) = λ i. eq-eqb d d refl i && (eq-eqb k k refl i 
 compared_equal (PairResult d k old) = λ i. eq-eqb d d refl i && (eq-eqb k k refl i && ends_itself old i)
 compared_equal (Value d) = eq-eqb d d refl
 
-or_second : (a b : Bool) → b ≡ true → (a || b) ≡ true
-or_second true b e = refl
-or_second false b e = e
-
 compared_itself : (c : Compared) → compared_inside c c ≡ true
-compared_itself c = or_second (tells_nothing c) _ (compared_equal c)
+compared_itself c = or_right (tells_nothing c) _ (compared_equal c)
 
 pub compared_widens : (a b : Compared) (core : Core) → compared_inside a b ≡ true → ComparedHolds a core → ComparedHolds b core
 compared_widens a Nothing core e h = tt
-compared_widens a (Byte d source) core e h = subst (λ c. ComparedHolds c core) (exact_compared a (Byte d source) e) h
-compared_widens a (Pair d low high) core e h = subst (λ c. ComparedHolds c core) (exact_compared a (Pair d low high) e) h
-compared_widens a (Result d k old) core e h = subst (λ c. ComparedHolds c core) (exact_compared a (Result d k old) e) h
-compared_widens a (PairResult d k old) core e h = subst (λ c. ComparedHolds c core) (exact_compared a (PairResult d k old) e) h
-compared_widens a (Value d) core e h = subst (λ c. ComparedHolds c core) (exact_compared a (Value d) e) h
+compared_widens a b core e h = subst (λ c. ComparedHolds c core) (exact_compared a b e) h
 
 pub known_in_itself : KnownInItself
 known_in_itself a = λ i. range_itself a.temp i && (slots i && (cells i && (flags i && (compared_itself a.compared i && (pairs i && registers i)))))
@@ -267,10 +193,10 @@ pub memory_widens : (head : Head) (a b : Instance) (o : Core) (d sp : ℕ) (byte
     → contents_inside a b ≡ true → MemoryMeets head a o d sp bytes → MemoryMeets head b o d sp bytes
 memory_widens head a b o d sp bytes all kind e h =
     let parts = contents_tell a b e in
-    let slots = and_true (nat_eq (length a.stack.items) (length b.stack.items)) _ parts.slots in
-    let cells = and_true (nat_eq (length a.cells.items) (length b.cells.items)) _ parts.cells in
-    let size : length a.stack.items ≡ length b.stack.items = same_number (length a.stack.items) (length b.stack.items) slots.0 in
-    let count : length a.cells.items ≡ length b.cells.items = same_number (length a.cells.items) (length b.cells.items) cells.0 in
+    let slots = and_parts (nat_eq (length a.stack.items) (length b.stack.items)) _ parts.slots in
+    let cells = and_parts (nat_eq (length a.cells.items) (length b.cells.items)) _ parts.cells in
+    let size : length a.stack.items ≡ length b.stack.items = eqb-true (length a.stack.items) (length b.stack.items) slots.0 in
+    let count : length a.cells.items ≡ length b.cells.items = eqb-true (length a.cells.items) (length b.cells.items) cells.0 in
     record {
       slots = λ i w.
           let w' : i < length a.stack.items = omega (arith, size, w) in
@@ -279,11 +205,11 @@ memory_widens head a b o d sp bytes all kind e h =
           (h.slots i w'));
       cells = λ at j p.
           let q : cell_place head a.kind at ≡ Some j = rw kind p in
-          elim (lt_or j (length b.cells.items)) [
+          elim (cases_lt j (length b.cells.items)) [
             | inl t ↦ within_both _ _ _ (below_tells (length a.cells.items)
                 (λ j. range_inside (span_at a.cells.items j) (span_at b.cells.items j)) cells.1 j (omega (arith, count, t)))
                 (h.cells at j q)
-            | inr t ↦ rw (past_end b.cells.items j t) (whole _ (byte_at bytes at all))
+            | inr t ↦ rw (get_or_past b.cells.items j (ends 0 255) t) (whole _ (byte_at bytes at all))
           ];
       ranges = h.ranges;
       depth = rw (← size, ← kind) h.depth;
@@ -291,18 +217,18 @@ memory_widens head a b o d sp bytes all kind e h =
 
 pub inside_keeps : InsideKeeps
 inside_keeps head a b o core d sp bytes c all e h m =
-    let both = and_true (same_place a b) _ e in
+    let both = and_parts (same_place a b) _ e in
     let place = place_tells a b both.0 in
-    let contents = (and_true (range_inside a.temp b.temp) _ both.1).1 in
+    let contents = (and_parts (range_inside a.temp b.temp) _ both.1).1 in
     (core_widens a b o core c contents h, memory_widens head a b o d sp bytes all place.kind contents m)
 
 -- A state
 
 pub state_inside : StateInside
 state_inside head a b o d s state e level m =
-    let both = and_true (same_place a b) _ e in
+    let both = and_parts (same_place a b) _ e in
     let place = place_tells a b both.0 in
-    let known = and_true (range_inside a.temp b.temp) _ both.1 in
+    let known = and_parts (range_inside a.temp b.temp) _ both.1 in
     record {
       pc = m.pc ∙ place.pc;
       enabled = m.enabled ∙ ap is_main place.kind;
@@ -328,20 +254,18 @@ state_inside head a b o d s state e level m =
 
 old_gives : (r : ℕ) (v : Val) (o : Core) (x : ℕ) → is_old_register r v ≡ true → ValueHolds v o x → x ≡ register o r
 old_gives r (Range e) o x t h = absurd cc
-old_gives r (Old q) o x t h = h ∙ ap (register o) (sym (same_number r q t))
+old_gives r (Old q) o x t h = h ∙ ap (register o) (sym (eqb-true r q t))
 old_gives r OldFlags o x t h = absurd cc
 
 flag_gives : (f : Bit) (before now : Bool) → is_old f ≡ true → FlagHolds f before now → now ≡ before
-flag_gives Zero before now t h = absurd cc
-flag_gives One before now t h = absurd cc
-flag_gives Free before now t h = absurd cc
 flag_gives OldBit before now t h = h
+flag_gives f before now t h = absurd cc
 
 pub restored_gives : RestoredGives
 restored_gives inst o core c old e h =
-    let one = and_true (nat_eq (length inst.stack.items) 0) _ e in
-    let two = and_true (not inst.pending) _ one.1 in
-    let three = and_true (all_below 7 (λ k. is_old (flag_at inst.flags k))) _ two.1 in
+    let one = and_parts (nat_eq (length inst.stack.items) 0) _ e in
+    let two = and_parts (not inst.pending) _ one.1 in
+    let three = and_parts (all_below 7 (λ k. is_old (flag_at inst.flags k))) _ two.1 in
     let sreg : core.sreg % 128 ≡ o.sreg % 128 = same_from_bits_below 7 (core.sreg % 128) (o.sreg % 128) (omega arith) (omega arith) (λ k w.
     let is = flag_gives (flag_at inst.flags k) (bit_is_set o.sreg k) (bit_is_set core.sreg k)
     (below_tells 7 (λ k. is_old (flag_at inst.flags k)) three.0 k w) (h.flags k w) in

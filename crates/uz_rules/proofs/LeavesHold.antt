@@ -1,34 +1,16 @@
 -- An instruction leaves the stack above its own slots, and the cells that its kind doesn't track.
-use Rattle.std.proofs.Common.{◌≡◌, ◌≢◌, ◌⊎◌, inl, inr, ℕ, suc, ◌+◌, ◌-◌, ◌/◌, ◌%◌, ◌<◌, ◌≤◌, Bool, true, false, not, if◌then◌else◌, nat_lt}
-use Rattle.std.proofs.Common.{nat_le, Some, None, List, [], ◌∷◌, filter, length, refl, ◌∙◌, ap, subst, arith}
-use Rattle.std.specs.Prelude.{◌&&◌, ◌||◌}
-use Rattle.std.proofs.lemmas.Bool.Decides.{nat_tests}
-use Rattle.uz_core.specs.declared.machine.AddressMode.{AddressMode}
-use Rattle.uz_core.specs.declared.machine.Effect.{Effect}
-use Rattle.uz_core.specs.declared.machine.Effect.TheVariants.{NoOperation, Store, PushByte, WriteIoBit, Jump}
-use Rattle.uz_core.specs.declared.machine.HeldStore.TheVariants.{Byte}
-use Rattle.uz_core.specs.Core.{Core, register, is_core_address, effective_address, following_pc, stores_of, leaves_core}
-use Rattle.uz_core.specs.OperandRanges.{EffectFits}
-use Rattle.uz_core.specs.Space.{PadWiring, Space, after_byte}
-use Rattle.uz_core.specs.Turn.{after_stores}
-use Rattle.uz_schedule.specs.Ends.{Ends}
-use Rattle.uz_schedule.specs.declared.kinds.Kind.{Kind}
-use Rattle.uz_schedule.specs.declared.facts.Val.{Val}
-use Rattle.uz_schedule.specs.declared.header.Head.{Head}
-use Rattle.uz_schedule.specs.declared.states.Instance.{Instance}
-use Rattle.uz_range.specs.Answers.{is_single}
-use Rattle.uz_range.specs.Containment.{IsWithin}
-use Rattle.uz_range.proofs.ShapesCover.{only}
-use Rattle.uz_transfer.specs.Values.{span_of, value_at}
-use Rattle.uz_transfer.specs.Kinds.{cell_place, cell_range, depth_limit}
-use Rattle.uz_rules.specs.MemoryMeets.{HeadFits, Untouched}
-use Rattle.uz_transfer.specs.Memory.{address_range, depth_of}
-use Rattle.uz_transfer.specs.Refusals.{cell_admits, flag_fails, mask_fails, io_fails, may_store, fail_of}
+use Rattle.uz_rules.proofs.Common.{push_room, call_room, ◌≡◌, ◌≢◌, inl, inr, ℕ, suc, ◌+◌, ◌-◌, ◌/◌, ◌%◌, ◌<◌, ◌≤◌, Bool, true, false, not}
+use Rattle.uz_rules.proofs.Common.{if◌then◌else◌, nat_le, Some, None, List, [], ◌∷◌, filter, length, refl, ◌∙◌, ap, subst, arith, ◌&&◌}
+use Rattle.uz_rules.proofs.Common.{nat_tests, Effect, Store, PushByte, WriteIoBit, Jump, Byte, Core, register, is_core_address}
+use Rattle.uz_rules.proofs.Common.{effective_address, following_pc, stores_of, leaves_core, EffectFits, PadWiring, Space, after_byte}
+use Rattle.uz_rules.proofs.Common.{after_stores, Ends, Kind, Val, Head, Instance, is_single, IsWithin, only, span_of, value_at, cell_place}
+use Rattle.uz_rules.proofs.Common.{cell_range, HeadFits, Untouched, address_range, depth_of, cell_admits, may_store, fail_of, and_parts}
+use Rattle.uz_rules.proofs.Common.{or_cases, not-false}
+use Rattle.uz_rules.proofs.Classes.{room_for, facts_of, Before, low_room, size_stored}
 use Rattle.uz_rules.proofs.MemoryKeeps.{Wrote, missed}
 use Rattle.uz_rules.proofs.SpaceStores.{byte_wrote, bit_kept}
-use Rattle.uz_rules.proofs.StoreClasses.{cell_taken, free_by, room_left}
+use Rattle.uz_rules.proofs.StoreClasses.{cell_taken, free_by}
 use Rattle.uz_rules.proofs.CoreSteps.{address_holds}
-use Rattle.uz_rules.proofs.Classes.{Before, low_room, unless_none, not_false, size_stored}
 
 leaves_itself : (head : Head) (kind : Kind) (base : ℕ) (bytes : List ℕ) → Untouched head kind base bytes bytes
 leaves_itself head kind base bytes = record { above = λ a h k. refl; cells = λ a r h k. refl }
@@ -59,30 +41,22 @@ push_leaves w head kind base at v s fits size low first last high =
     (λ a h k q. omega (arith, h, q, last))
     (λ a r h k q. elim (fits.cells_off a r h) [ inl l ↦ omega (arith, l, q, first) | inr g ↦ omega (arith, g, q, high) ])
 
-and_true : (a b : Bool) → (a && b) ≡ true → (a ≡ true) × (b ≡ true)
-and_true true b e = (refl, e)
-and_true false b e = absurd cc
-
-either : (a b : Bool) → (a || b) ≡ true → (a ≡ true) ⊎ (b ≡ true)
-either true b e = inl refl
-either false b e = inr e
-
 -- a store off the stack
 store_leaves : {P : Type 0} (w : PadWiring P) (head : Head) (kind : Kind) (base at v : ℕ) (a : Ends) (val : Val) (s : Space P)
     → HeadFits head → length s.bytes ≡ 4352 → head.lo ≤ suc base → IsWithin at a → may_store head kind a val ≡ true
     → Untouched head kind base s.bytes (after_byte w at v s).bytes
 store_leaves {P} w head kind base at v a val s fits size low within may =
-    elim (either (is_single a && (nat_le 0x20 a.lo && nat_le a.lo 0xFF)) _ may) [
+    elim (or_cases (is_single a && (nat_le 0x20 a.lo && nat_le a.lo 0xFF)) _ may) [
       | inl t ↦
-          let both = and_true (nat_le 0x20 a.lo) (nat_le a.lo 0xFF) (and_true (is_single a) _ t).1 in
-          let i = only a at (and_true (is_single a) _ t).0 within in
+          let both = and_parts (nat_le 0x20 a.lo) (nat_le a.lo 0xFF) (and_parts (is_single a) _ t).1 in
+          let i = only a at (and_parts (is_single a) _ t).0 within in
           let second = both.1 in
           let below : at ≤ 0xFF = grind (arith, nat_tests) in
           away (λ n h q. omega (arith, below, h, q))
       | inr t ↦
-          elim (either (is_single a && cell_admits (cell_place head kind a.lo) (cell_range head a.lo) (span_of val)) _ t) [
+          elim (or_cases (is_single a && cell_admits (cell_place head kind a.lo) (cell_range head a.lo) (span_of val)) _ t) [
             | inl u ↦
-                let one = and_true (is_single a) _ u in
+                let one = and_parts (is_single a) _ u in
                 let i = only a at one.0 within in
                 let k = subst (λ n. cell_admits (cell_place head kind n) (cell_range head n) (span_of val) ≡ true) i one.1 in
                 let taken = cell_taken head kind at (span_of val) k in
@@ -133,22 +107,6 @@ two_leaves {P} w head kind base a x b y s first second alone = by_case (is_core_
     by_case false false = then_leaves head kind base s.bytes (after_byte w a x s).bytes (after_byte w b y (after_byte w a x s)).bytes first
         (second (after_byte w a x s) refl)
 
--- the refusals of a store that don't stand
-pub record StoreFacts (head : Head) (inst : Instance) (a : Ends) (v : Val) : Type 0 where
-  pub flag : (is_single a && flag_fails inst.kind a.lo v) ≡ false
-  pub mask : (is_single a && mask_fails inst.kind a.lo v) ≡ false
-  pub may : not (may_store head inst.kind a v) ≡ false
-  pub io : (is_single a && io_fails inst a.lo v) ≡ false
-
-pub facts_of : (head : Head) (inst : Instance) (to : AddressMode) (r : ℕ) → fail_of head (Store to r) inst ≡ None → StoreFacts head inst
-    (address_range to inst) (value_at inst.regs r)
-facts_of head inst to r fail =
-    let one = unless_none _ _ _ fail in
-    let two = unless_none _ _ _ one.1 in
-    let three = unless_none _ _ _ two.1 in
-    let four = unless_none _ _ _ three.1 in
-    record { flag = one.0; mask = two.0; may = three.0; io = four.0 }
-
 pub stores_leave : {P : Type 0} (w : PadWiring P) (e : Effect) (head : Head) (words d : ℕ) (inst : Instance) (o core : Core)
     (before s : Space P) → length s.bytes ≡ 4352 → EffectFits e → Before head inst o d core before → fail_of head e inst ≡ None
     → Untouched head inst.kind (core.sp + depth_of inst) s.bytes (after_stores w (filter leaves_core (stores_of e words core)) s).bytes
@@ -156,11 +114,9 @@ stores_leave w (Store to r) head words d inst o core before s size fits b fail =
     held_leaves w head inst.kind (core.sp + depth_of inst) (effective_address to core) (register core r) s
     (store_leaves w head inst.kind (core.sp + depth_of inst) (effective_address to core) (register core r) (address_range to inst)
     (value_at inst.regs r) s b.fits size (omega (arith, low_room head inst o d core before b))
-    (address_holds to inst o core b.is_core fits.0 b.meets) (not_false _ (facts_of head inst to r fail).may))
+    (address_holds to inst o core b.is_core fits.0 b.meets) (not-false _ (facts_of head inst to r fail).may))
 stores_leave w (PushByte r) head words d inst o core before s size fits b fail =
-    let free : nat_le (depth_limit head inst.kind) (depth_of inst) ≡ false = (unless_none _ _ _ fail).0 in
-    let few : depth_of inst + 1 ≤ depth_limit head inst.kind = grind (arith, nat_tests) in
-    let room = room_left head inst.kind d core.sp (depth_of inst) 1 b.fits b.few b.memory.depth few in
+    let room = room_for head inst o d core before b 1 (omega (arith, push_room head inst r fail)) in
     held_leaves w head inst.kind (core.sp + depth_of inst) core.sp (register core r) s
     (push_leaves w head inst.kind (core.sp + depth_of inst) core.sp (register core r) s b.fits size (omega (arith, room))
     (omega (arith, room)) (omega arith) (omega (arith, b.memory.depth)))
@@ -169,9 +125,7 @@ stores_leave w (WriteIoBit at bit set) head words d inst o core before s size fi
   cells = λ a r h k. bit_kept w s at bit a set fits.0.1 (b.fits.cells_ram a r h).0;
 }
 stores_leave w (Jump target true) head words d inst o core before s size fits b fail =
-    let free : nat_lt (depth_limit head inst.kind) (depth_of inst + 2) ≡ false = (unless_none _ _ _ fail).0 in
-    let few : depth_of inst + 2 ≤ depth_limit head inst.kind = grind (arith, nat_tests) in
-    let room = room_left head inst.kind d core.sp (depth_of inst) 2 b.fits b.few b.memory.depth few in
+    let room = room_for head inst o d core before b 2 (call_room head inst target fail) in
     let next : (core.sp + 65535) % 65536 ≡ core.sp - 1 = omega (arith, b.fits.low, room, b.is_core.sp) in
     let first = push_leaves w head inst.kind (core.sp + depth_of inst) core.sp (following_pc words core % 256) s b.fits size
     (omega (arith, room)) (omega (arith, room)) (omega arith) (omega (arith, b.memory.depth)) in
@@ -182,8 +136,4 @@ stores_leave w (Jump target true) head words d inst o core before s size fits b 
     (omega (arith, next)) (omega (arith, next, b.memory.depth)))
     (push_leaves w head inst.kind (core.sp + depth_of inst) ((core.sp + 65535) % 65536) (following_pc words core / 256) s b.fits size
     (omega (arith, room)) (omega (arith, next, room)) (omega (arith, next)) (omega (arith, next, b.memory.depth)))
-stores_leave w (Jump target false) head words d inst o core before s size fits b fail = leaves_itself head inst.kind
-    (core.sp + depth_of inst) s.bytes
-stores_leave w NoOperation head words d inst o core before s size fits b fail = leaves_itself head inst.kind (core.sp + depth_of inst)
-    s.bytes
 stores_leave w e head words d inst o core before s size fits b fail = leaves_itself head inst.kind (core.sp + depth_of inst) s.bytes

@@ -1,3 +1,4 @@
+mod Common
 pub mod CoreKeeps
 pub mod ComparedLaws
 pub mod PairResults

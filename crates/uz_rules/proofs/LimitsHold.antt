@@ -1,43 +1,23 @@
 -- What a certificate's limits and orders give of its header and of each instance.
-use Rattle.std.proofs.Common.{inl, inr, ◌≡◌, ◌⊎◌, ℕ, suc, ◌+◌, ◌<◌, ◌≤◌, Bool, true, false, List, [], ◌∷◌, All, length, map}
-use Rattle.std.proofs.Common.{filter, Some, None, nat_le, nat_lt, nat_eq, refl, sym, ◌∙◌, subst, arith, if◌then◌else◌}
-use Rattle.std.specs.Prelude.{◌&&◌, ℤ, pos, negsuc, ◌+ℤ◌, ◌*ℤ◌, slice_get, slice_index_or, option_and_then}
-use Rattle.std.proofs.lemmas.Bool.Decides.{nat_tests}
-use Rattle.std.proofs.lemmas.Option.{slice_get_cases, option_and_then_some}
-use Rattle.std.proofs.lemmas.List.{length-map}
-use Rattle.uz_schedule.specs.Ends.{Ends}
-use Rattle.uz_schedule.specs.declared.kinds.Kind.{Kind}
-use Rattle.uz_schedule.specs.declared.kinds.Kind.TheVariants.{Main, Handler, Alone}
-use Rattle.uz_schedule.specs.declared.facts.Bit.{Bit}
-use Rattle.uz_schedule.specs.declared.facts.Bit.TheVariants.{Zero, One, Free, Old as OldBit}
+use Rattle.uz_rules.proofs.Common.{inl, inr, ◌≡◌, ◌⊎◌, ℕ, suc, ◌+◌, ◌<◌, ◌≤◌, Bool, true, false, List, [], ◌∷◌, All, length, map, filter}
+use Rattle.uz_rules.proofs.Common.{Some, None, nat_le, nat_lt, nat_eq, refl, sym, ◌∙◌, subst, arith, if◌then◌else◌, ◌&&◌, ℤ, pos, negsuc}
+use Rattle.uz_rules.proofs.Common.{◌+ℤ◌, ◌*ℤ◌, slice_get, slice_index_or, option_and_then, nat_tests, slice_get_cases, option_and_then_some}
+use Rattle.uz_rules.proofs.Common.{length-map, Ends, Kind, Main, Handler, Alone, Bit, OldBit, Cell, Head, Instance, Point, Cert, length_of}
+use Rattle.uz_rules.proofs.Common.{start_of, level_at, val_of, cell_span, is_in_box, clock_below, clock_at, instance_of, instance_at_clock}
+use Rattle.uz_rules.proofs.Common.{instance_in, instance_at, WellFormed, is_main, depth_limit, range_from, cell_range, all_flags, is_old}
+use Rattle.uz_rules.proofs.Common.{HeadFits, InstanceLimits, LimitsGive, and_parts, same_Some, HeaderFits, BitFits, PointFits}
 use Rattle.uz_schedule.specs.declared.kinds.Owner.TheVariants.{Main as MainOwner}
-use Rattle.uz_schedule.specs.declared.header.Cell.{Cell}
-use Rattle.uz_schedule.specs.declared.header.Head.{Head}
-use Rattle.uz_schedule.specs.declared.states.Instance.{Instance}
-use Rattle.uz_schedule.specs.declared.states.Point.{Point}
-use Rattle.uz_schedule.specs.declared.certificate.Cert.{Cert}
-use Rattle.uz_schedule.specs.Schedule.{length_of, start_of, level_at}
 use Rattle.uz_schedule.specs.Tracked.{tracked, depth_of as kind_depth}
 use Rattle.uz_schedule.proofs.Starts.{length_within}
-use Rattle.uz_schedule.specs.Instances.{val_of, cell_span, is_in_box, clock_below, clock_at, instance_of, instance_at_clock, instance_in}
-use Rattle.uz_schedule.specs.Instances.{instance_at}
-use Rattle.uz_schedule.specs.WellFormed.{WellFormed, HeadFits as HeaderFits, BitFits, PointFits}
-use Rattle.uz_transfer.specs.Kinds.{is_main, depth_limit, range_from, cell_range}
-use Rattle.uz_transfer.specs.Memory.{all_flags, is_old}
-use Rattle.uz_rules.specs.MemoryMeets.{HeadFits}
-use Rattle.uz_rules.specs.Limits.{InstanceLimits, LimitsGive}
 
 -- Elements
-
-some_same : {A : Type 0} (a b : A) → Some a ≡ Some b → a ≡ b
-some_same a b e = cc
 
 no_some : {A B : Type 0} (a : A) → Some a ≡ None → B
 no_some a e = absurd cc
 
 pub element_holds : {A : Type 0} (P : A → Type 0) (xs : List A) (k : ℕ) (x : A) → slice_get xs k ≡ Some x → All P xs → P x
 element_holds P xs k x e h = elim (slice_get_cases xs k).1 [
-  | inl t ↦ subst P (t.3 ∙ some_same t.0 x (sym t.2 ∙ e)) (h k t.0 t.1)
+  | inl t ↦ subst P (t.3 ∙ same_Some t.0 x (sym t.2 ∙ e)) (h k t.0 t.1)
   | inr t ↦ no_some x (sym e ∙ t.1)
 ]
 
@@ -79,8 +59,7 @@ head_fits head h = record {
 
 depth_same : (head : Head) (kind : Kind) → depth_limit head kind ≡ kind_depth head kind
 depth_same head Main = refl
-depth_same head Handler = refl
-depth_same head Alone = refl
+depth_same head kind = refl
 
 depth_few : (head : Head) (kind : Kind) → HeaderFits head → depth_limit head kind ≤ 32
 depth_few head Main h = h.stack.main
@@ -89,30 +68,23 @@ depth_few head Alone h = h.stack.main
 
 old_is_handlers : (kind : Kind) (flags : List Bit) → length flags ≡ 7 → All (BitFits kind) flags → all_flags is_old flags ≡ true
     → is_main kind ≡ false
-old_is_handlers Handler flags n h e = refl
-old_is_handlers Alone flags n h e = refl
 old_is_handlers Main [] n h e = absurd (omega (arith, n))
-old_is_handlers Main (Zero ∷ flags) n h e = absurd cc
-old_is_handlers Main (One ∷ flags) n h e = absurd cc
-old_is_handlers Main (Free ∷ flags) n h e = absurd cc
 old_is_handlers Main (OldBit ∷ flags) n h e = let never : Main ≡ Handler = h 0 OldBit (omega arith) in absurd cc
+old_is_handlers Main (f ∷ flags) n h e = absurd cc
+old_is_handlers kind flags n h e = refl
 
 clock_low : (length : ℕ) (z : ℤ) (clock : ℕ) → clock_below length z ≡ Some clock → clock < length
 clock_low length (pos k) clock e = by_case (nat_lt k length) refl e
   where
     by_case : (t : Bool) → nat_lt k length ≡ t → (if t then Some k else None) ≡ Some clock → clock < length
-    by_case true q e = let is : k ≡ clock = some_same k clock e in grind (arith, nat_tests)
+    by_case true q e = let is : k ≡ clock = same_Some k clock e in grind (arith, nat_tests)
     by_case false q e = absurd cc
 clock_low length (negsuc k) clock e = absurd cc
 
-and_true : (a b : Bool) → (a && b) ≡ true → (a ≡ true) × (b ≡ true)
-and_true true b e = (refl, e)
-and_true false b e = absurd cc
-
 line_low : (p : Point) (l c : ℕ) → is_in_box p l c ≡ true → l ≤ p.l1
 line_low p l c e =
-    let lines = (and_true (nat_le p.l0 l && nat_le l p.l1) _ e).0 in
-    let t = (and_true (nat_le p.l0 l) _ lines).1 in
+    let lines = (and_parts (nat_le p.l0 l && nat_le l p.l1) _ e).0 in
+    let t = (and_parts (nat_le p.l0 l) _ lines).1 in
     grind (arith, nat_tests)
 
 filter_few : {A : Type 0} (test : A → Bool) (xs : List A) → length (filter test xs) ≤ length xs
@@ -164,7 +136,7 @@ instance_limits cert id l c inst fits e =
         option_and_then_some (instance_at_clock cert.schedule p l c) (clock_at cert.schedule p l c) inst e (λ clock at here.
         option_and_then_some (λ level. Some (instance_of p l c clock level)) (level_at cert.schedule (start_of cert.schedule l + clock))
         inst here (λ level is there.
-        subst (InstanceLimits cert) (some_same (instance_of p l c clock level) inst there)
+        subst (InstanceLimits cert) (same_Some (instance_of p l c clock level) inst there)
         (point_limits cert p l c clock level fits f (line_low p l c q)
         (clock_low (length_of cert.schedule l) (pos p.clock +ℤ p.slope *ℤ pos c) clock at))))
 

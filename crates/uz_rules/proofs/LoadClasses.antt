@@ -1,36 +1,14 @@
 -- The classes of effect that load: LD and IN, LPM, POP, and the two slots of a return.
-use Rattle.std.proofs.Common.{◌≡◌, ℕ, suc, ◌+◌, ◌-◌, ◌%◌, ◌<◌, ◌≤◌, Bool, true, false, if◌then◌else◌, nat_eq, nat_lt, Option, Some, None}
-use Rattle.std.proofs.Common.{List, [], ◌∷◌, length, refl, sym, ap, subst, arith}
-use Rattle.std.specs.Prelude.{slice_index, ◌&&◌}
-use Rattle.std.specs.Ordering.{nat_cmp}
-use Rattle.std.specs.FinMap.{FinMap}
-use Rattle.std.specs.List.{AllByRecursion}
-use Rattle.std.proofs.lemmas.Bool.Decides.{nat_tests}
-use Rattle.uz_hex.specs.Cells.{byte_or_255}
-use Rattle.uz_core.specs.declared.machine.AddressMode.{AddressMode}
-use Rattle.uz_core.specs.declared.machine.Effect.TheVariants.{Load, LoadProgram, PopByte}
-use Rattle.uz_core.specs.Arithmetic.{bit_is_set}
-use Rattle.uz_core.specs.Core.{Core, pair, with_register, with_pair, is_core_address, core_byte, effective_address, with_pointer_after}
-use Rattle.uz_core.specs.Core.{loaded_bytes, content_after_loads, changed_core}
-use Rattle.uz_core.specs.CoreRange.{IsByte, IsCore}
-use Rattle.uz_core.specs.OperandRanges.{EffectFits}
-use Rattle.uz_core.specs.Timer.{is_timer_address}
-use Rattle.uz_core.specs.Space.{PadWiring, Space, is_pin, plain_byte, byte_at, space_after, space_loads}
-use Rattle.uz_schedule.specs.Ends.{Ends}
-use Rattle.uz_schedule.specs.declared.facts.Val.TheVariants.{Range}
-use Rattle.uz_schedule.specs.declared.header.Head.{Head}
-use Rattle.uz_schedule.specs.declared.states.Instance.{Instance}
-use Rattle.uz_range.specs.Answers.{ends, is_single}
-use Rattle.uz_range.specs.Containment.{IsWithin}
-use Rattle.uz_range.specs.Rules.{pair_add_answer}
-use Rattle.uz_range.proofs.ShapesCover.{only}
-use Rattle.uz_transfer.specs.Values.{exact_pair, pair_range, with_value, with_pair_value, known_byte}
-use Rattle.uz_rules.specs.CoreMeets.{ValueHolds, CoreMeets}
-use Rattle.uz_transfer.specs.Kinds.{cell_place, cell_range, is_main, is_handler}
-use Rattle.uz_rules.specs.MemoryMeets.{StackHolds, MemoryMeets, HeadFits}
-use Rattle.uz_transfer.specs.Memory.{all_flags, is_old, sreg_value, address_range, with_pointer_range, cell_value, value_at_address}
-use Rattle.uz_transfer.specs.Memory.{loaded_value, flash_value, depth_of, slot_value}
-use Rattle.uz_transfer.specs.Transfer.{transfer}
+use Rattle.uz_rules.proofs.Common.{◌≡◌, ℕ, suc, ◌+◌, ◌-◌, ◌%◌, ◌<◌, ◌≤◌, Bool, true, false, if◌then◌else◌, nat_eq, nat_lt, Option, Some}
+use Rattle.uz_rules.proofs.Common.{None, List, [], ◌∷◌, length, refl, sym, ap, subst, arith, slice_index, ◌&&◌, nat_cmp, FinMap}
+use Rattle.uz_rules.proofs.Common.{AllByRecursion, nat_tests, byte_or_255, AddressMode, Load, LoadProgram, PopByte, bit_is_set, Core, pair}
+use Rattle.uz_rules.proofs.Common.{with_register, with_pair, is_core_address, core_byte, effective_address, with_pointer_after}
+use Rattle.uz_rules.proofs.Common.{loaded_bytes, content_after_loads, changed_core, IsByte, IsCore, EffectFits, is_timer_address, PadWiring}
+use Rattle.uz_rules.proofs.Common.{Space, is_pin, plain_byte, byte_at, space_after, space_loads, Ends, Range, Head, Instance, ends}
+use Rattle.uz_rules.proofs.Common.{is_single, IsWithin, pair_add_answer, only, exact_pair, pair_range, with_value, with_pair_value}
+use Rattle.uz_rules.proofs.Common.{known_byte, ValueHolds, CoreMeets, cell_place, cell_range, is_main, is_handler, StackHolds, MemoryMeets}
+use Rattle.uz_rules.proofs.Common.{HeadFits, all_flags, is_old, sreg_value, address_range, with_pointer_range, cell_value, value_at_address}
+use Rattle.uz_rules.proofs.Common.{loaded_value, flash_value, depth_of, slot_value, transfer}
 use Rattle.uz_rules.proofs.CoreKeeps.{whole, pair_word, pair_holds, val_meets}
 use Rattle.uz_rules.proofs.MemoryKeeps.{HasRange, tracked_has_range}
 use Rattle.uz_rules.proofs.SpaceStores.{choose_if, pin_low, timer_low}
@@ -142,7 +120,6 @@ pub load_meets : {P : Type 0} (w : PadWiring P) (to : ℕ) (from : AddressMode) 
     → CoreMeets (transfer head image following sampled (Load to from) inst) o
     (changed_core (Load to from) image words (loaded_bytes (space_loads w) core late s (effective_address from core ∷ [])) core)
 load_meets w to from head image following sampled words late d inst o core s fits hf len old c new h enabled m ticks low =
-    let at : ℕ = effective_address from core in
     let p = core_with_pointer from (effective_address from core) core low c in
     let is = is_one_loaded w core late s (effective_address from core) in
     let byte = set_byte (with_pointer_after from (effective_address from core) core).registers to

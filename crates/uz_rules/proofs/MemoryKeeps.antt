@@ -1,24 +1,11 @@
 -- What stores keep of a memory that meets an instance.
-use Rattle.std.proofs.Common.{◌≡◌, ◌≢◌, ◌⊎◌, inl, inr, ℕ, zero, suc, ◌+◌, ◌-◌, ◌<◌, ◌≤◌, Bool, true, false, if◌then◌else◌, nat_eq, nat_lt}
-use Rattle.std.proofs.Common.{Option, Some, None, List, [], ◌∷◌, ◌++◌, length, refl, sym, ◌∙◌, ap, subst, arith}
-use Rattle.std.specs.Prelude.{slice_index, slice_set, take, ◌||◌, ◌&&◌}
-use Rattle.std.proofs.lemmas.Bool.Decides.{eqb_tells, nat_tests}
-use Rattle.std.proofs.lemmas.List.{length-append}
-use Rattle.uz_core.specs.Core.{Core}
-use Rattle.uz_schedule.specs.Ends.{Ends}
-use Rattle.uz_schedule.specs.declared.kinds.Kind.{Kind}
-use Rattle.uz_schedule.specs.declared.header.Cell.{Cell}
-use Rattle.uz_schedule.specs.declared.header.Head.{Head}
-use Rattle.uz_schedule.specs.declared.facts.Val.{Val}
-use Rattle.uz_schedule.specs.declared.states.Instance.{Instance}
-use Rattle.uz_range.specs.Containment.{IsWithin}
-use Rattle.uz_range.specs.Answers.{ends}
-use Rattle.uz_transfer.specs.Values.{value_at, span_at}
-use Rattle.uz_rules.specs.CoreMeets.{ValueHolds}
-use Rattle.uz_transfer.specs.Kinds.{tracks, place_from, cell_place, range_from, cell_range, misses}
-use Rattle.uz_rules.specs.MemoryMeets.{CellsHold, HeaderHolds, StackHolds, MemoryMeets, HeadFits}
-use Rattle.uz_transfer.specs.Memory.{with_cell, with_slots}
-use Rattle.uz_rules.proofs.CoreKeeps.{or_other, or_same}
+use Rattle.uz_rules.proofs.Common.{Range, get_or_push, get_or_append_left, length-take-le, get_or-take, get_or-set_other, ◌≡◌, ◌≢◌, ◌⊎◌}
+use Rattle.uz_rules.proofs.Common.{inl, inr, ℕ, suc, ◌+◌, ◌-◌, ◌<◌, ◌≤◌, Bool, true, false, if◌then◌else◌, nat_eq, nat_lt, Option, Some}
+use Rattle.uz_rules.proofs.Common.{None, List, [], ◌∷◌, ◌++◌, length, refl, sym, ◌∙◌, subst, arith, slice_index, slice_set, take, ◌||◌}
+use Rattle.uz_rules.proofs.Common.{◌&&◌, eqb_tells, nat_tests, length-append, Core, Ends, Kind, Cell, Head, Val, Instance, IsWithin, ends}
+use Rattle.uz_rules.proofs.Common.{span_at, ValueHolds, tracks, place_from, cell_place, range_from, cell_range, misses, CellsHold}
+use Rattle.uz_rules.proofs.Common.{HeaderHolds, StackHolds, MemoryMeets, HeadFits, with_cell, with_slots}
+use Rattle.uz_rules.proofs.CoreKeeps.{or_same}
 
 -- a byte is written at an address; what lies below RAM doesn't matter
 pub record Wrote (at v : ℕ) (old new : List ℕ) : Type 0 where
@@ -121,7 +108,7 @@ cells_stored head kind spans at v e old new fits wrote within byte h (Some i) is
       | inr t ↦
           rw (
             wrote.other a ram.0 t.1,
-            or_other spans i j e (ends 0 255)
+            get_or-set_other spans i j e (ends 0 255)
                 (λ q. t.1 (place_one kind head.cells.items 0 a at j p (subst (λ k. cell_place head kind at ≡ Some k) (sym q) is))),
           ) (h a j p)
     ]
@@ -138,8 +125,6 @@ stored_meets head inst o d sp at v e old new fits h low wrote byte off takes wit
   where
     slots : StackHolds inst.stack.items o sp new
     slots i w =
-        let n : ℕ = length inst.stack.items in
-        let a : ℕ = sp + n - i in
         rw (wrote.other (sp + length inst.stack.items - i) (omega (arith, fits.low, low, w))
         (λ q. elim off [ inl l ↦ omega (arith, l, low, q, w) | inr g ↦ omega (arith, g, q, h.depth) ])) (h.slots i w)
 
@@ -172,17 +157,6 @@ kept_meets head inst o d sp old new fits h low same = record {
 
 -- Pushes and pops
 
-last_slot : (xs : List Val) (x : Val) (i : ℕ) → i ≡ length xs → value_at (xs ++ x ∷ []) i ≡ x
-last_slot [] x zero e = refl
-last_slot [] x (suc i) e = absurd (omega arith)
-last_slot (y ∷ xs) x zero e = absurd (omega arith)
-last_slot (y ∷ xs) x (suc i) e = last_slot xs x i (omega arith)
-
-other_slot : (xs : List Val) (x : Val) (i : ℕ) → i < length xs → value_at (xs ++ x ∷ []) i ≡ value_at xs i
-other_slot [] x i e = absurd (omega arith)
-other_slot (y ∷ xs) x zero e = refl
-other_slot (y ∷ xs) x (suc i) e = other_slot xs x i (omega arith)
-
 pub push_meets : (head : Head) (inst : Instance) (o : Core) (d sp below v : ℕ) (x : Val) (old new : List ℕ) → HeadFits head
     → MemoryMeets head inst o d sp old → head.lo ≤ sp → sp ≡ suc below → Wrote sp v old new → ValueHolds x o v
     → MemoryMeets head (with_slots (inst.stack.items ++ x ∷ []) inst) o d below new
@@ -193,12 +167,17 @@ push_meets head inst o d sp below v x old new fits h low is wrote hx = record {
       elim (eqb_tells i (length inst.stack.items)) [
         | inl t ↦
             let at : below + length (inst.stack.items ++ x ∷ []) - i ≡ sp = omega (arith, len, t.1, is) in
-            rw (last_slot inst.stack.items x i t.1, at, wrote.same (omega (arith, fits.low, low)) (omega (arith, h.depth, fits.high))) hx
+            rw (
+              get_or_push inst.stack.items x (Range (ends 0 255)) i (sym t.1),
+              at,
+              wrote.same (omega (arith, fits.low, low))
+                  (omega (arith, h.depth, fits.high)),
+            ) hx
         | inr t ↦
             let w' : i < length inst.stack.items = omega (arith, t.1, w, len) in
             let at : below + length (inst.stack.items ++ x ∷ []) - i ≡ sp + length inst.stack.items - i = omega (arith, len, is, w') in
             rw (
-              other_slot inst.stack.items x i w',
+              get_or_append_left inst.stack.items (x ∷ []) (Range (ends 0 255)) i w',
               at,
               wrote.other (sp + length inst.stack.items - i) (omega (arith, fits.low, low, w'))
                   (λ q. omega (arith, q, w')),
@@ -215,31 +194,19 @@ push_meets head inst o d sp below v x old new fits h low is wrote hx = record {
   depth = omega (arith, h.depth, is, length-append inst.stack.items (x ∷ []));
 }
 
-kept_slot : (xs : List Val) (n i : ℕ) → i < length (take n xs) → value_at (take n xs) i ≡ value_at xs i
-kept_slot xs zero i w = absurd (omega arith)
-kept_slot [] (suc n) i w = absurd (omega arith)
-kept_slot (y ∷ xs) (suc n) zero w = refl
-kept_slot (y ∷ xs) (suc n) (suc i) w = kept_slot xs n i (omega arith)
-
-pub taken : (xs : List Val) (n : ℕ) → n ≤ length xs → length (take n xs) ≡ n
-taken xs zero h = refl
-taken [] (suc n) h = absurd (omega arith)
-taken (y ∷ xs) (suc n) h = ap suc (taken xs n (omega arith))
-
 -- n slots are popped
 pub pop_meets : (head : Head) (inst : Instance) (o : Core) (d sp above n : ℕ) (bytes : List ℕ) → MemoryMeets head inst o d sp bytes
     → n ≤ length inst.stack.items → above ≡ sp + n
     → MemoryMeets head (with_slots (take (length inst.stack.items - n) inst.stack.items) inst) o d above bytes
 pop_meets head inst o d sp above n bytes h few is =
-    let m : ℕ = length inst.stack.items - n in
-    let len : length (take (length inst.stack.items - n) inst.stack.items) ≡ length inst.stack.items - n = taken inst.stack.items
-    (length inst.stack.items - n) (omega arith) in
+    let len : length (take (length inst.stack.items - n) inst.stack.items) ≡ length inst.stack.items - n =
+    length-take-le (length inst.stack.items - n) inst.stack.items (omega arith) in
     record {
       slots = λ i w.
           let w' : i < length inst.stack.items = omega (arith, w, len) in
           let at : above + length (take (length inst.stack.items - n) inst.stack.items) - i ≡ sp + length inst.stack.items - i =
           omega (arith, len, is, few, w) in
-          rw (kept_slot inst.stack.items (length inst.stack.items - n) i w, at) (h.slots i w');
+          rw (get_or-take (length inst.stack.items - n) inst.stack.items i (Range (ends 0 255)) (omega (arith, w, len)), at) (h.slots i w');
       cells = h.cells;
       ranges = h.ranges;
       depth = omega (arith, h.depth, is, len, few);

@@ -1,24 +1,14 @@
 -- What is put anew at the places of facts that aren't steady makes the whole instance.
-use Rattle.std.proofs.Common.{◌≡◌, ℕ, zero, suc, ◌+◌, ◌<◌, ◌≤◌, Bool, true, false, List, [], ◌∷◌, ◌++◌, All, length, map, drop, refl, sym, ◌∙◌}
-use Rattle.std.proofs.Common.{ap, subst, arith}
-use Rattle.std.specs.Prelude.{◌&&◌, slice_index_or, slice_set, if◌then◌else◌}
+use Rattle.uz_rules.proofs.Common.{and_parts, ◌≡◌, ℕ, zero, suc, ◌+◌, ◌<◌, ◌≤◌, Bool, true, false, List, [], ◌∷◌, ◌++◌, All, length, map}
+use Rattle.uz_rules.proofs.Common.{drop, refl, sym, ◌∙◌, ap, subst, arith, slice_index_or, slice_set, if◌then◌else◌, map-append}
+use Rattle.uz_rules.proofs.Common.{length-append, length-map, Ends, hull, Fact, Any, Line, Loop, PairFact, AnyPair, LoopPair, Val, Instance}
+use Rattle.uz_rules.proofs.Common.{Point, val_of, span_of_val, cell_span, val_at, pair_of, pairs_of, instance_of, varying_from, IsVarying}
+use Rattle.uz_rules.proofs.Common.{IsOfPoint, with_registers, with_stack, with_cells, All-cons, All-nil}
 use Rattle.std.proofs.Math.Seq.{set-append_seam, get_or-append_seam, drop-cons, append_snoc}
 use Rattle.std.proofs.Math.ListN.{get_or-map}
-use Rattle.std.proofs.lemmas.List.{map-append, length-append, length-map}
-use Rattle.std.proofs.lemmas.List.Elements.{All-cons, All-nil}
-use Rattle.uz_schedule.specs.Ends.{Ends, hull}
-use Rattle.uz_schedule.specs.declared.facts.Fact.{Fact}
-use Rattle.uz_schedule.specs.declared.facts.Fact.TheVariants.{Any, Between, Line, Loop, Old as OldFact, OldFlags as OldFlagsFact}
-use Rattle.uz_schedule.specs.declared.facts.PairFact.{PairFact}
-use Rattle.uz_schedule.specs.declared.facts.PairFact.TheVariants.{Any as AnyPair, Between as BetweenPair, Line as LinePair}
-use Rattle.uz_schedule.specs.declared.facts.PairFact.TheVariants.{Loop as LoopPair}
-use Rattle.uz_schedule.specs.declared.facts.Val.{Val}
-use Rattle.uz_schedule.specs.declared.states.Instance.{Instance}
-use Rattle.uz_schedule.specs.declared.states.Point.{Point}
-use Rattle.uz_schedule.specs.Instances.{val_of, span_of_val, cell_span, val_at, pair_of, pairs_of, instance_of}
+use Rattle.uz_schedule.specs.declared.facts.PairFact.TheVariants.{Between as BetweenPair, Line as LinePair}
 use Rattle.uz_rules.specs.declared.varying.Varying.{Varying}
-use Rattle.uz_rules.specs.Moving.{is_steady, is_steady_pair, fact_at, pair_fact_at, varying_from, IsVarying, put_facts, put_pair, moved}
-use Rattle.uz_rules.specs.Moving.{IsOfPoint, with_registers, with_stack, with_cells, with_pairs}
+use Rattle.uz_rules.specs.Moving.{is_steady, is_steady_pair, fact_at, pair_fact_at, put_facts, put_pair, moved, with_pairs}
 
 -- Places
 
@@ -113,16 +103,9 @@ put_all {A} says said same front (f ∷ facts) whole k xs is at e =
 -- Pairs
 
 steady_says : (l c line count : ℕ) (f : Fact) → is_steady f ≡ true → val_of line count f ≡ val_of l c f
-steady_says l c line count Any e = refl
-steady_says l c line count (Between s) e = refl
 steady_says l c line count (Line a b) e = absurd cc
 steady_says l c line count (Loop a b) e = absurd cc
-steady_says l c line count (OldFact r) e = refl
-steady_says l c line count OldFlagsFact e = refl
-
-both_true : (a b : Bool) → (a && b) ≡ true → (a ≡ true) × (b ≡ true)
-both_true true b e = (refl, e)
-both_true false b e = absurd cc
+steady_says l c line count f e = refl
 
 byte_at : (l c : ℕ) (regs : List Fact) (r : ℕ) → val_at (map (val_of l c) regs) r ≡ val_of l c (fact_at regs r)
 byte_at l c regs r = get_or-map (val_of l c) regs r Any
@@ -135,7 +118,7 @@ byte_same l c line count regs r e =
 pair_same : (l c line count : ℕ) (regs : List Fact) (r : ℕ) (f : PairFact) → is_steady_pair regs r f ≡ true
     → pair_of line count (map (val_of line count) regs) r f ≡ pair_of l c (map (val_of l c) regs) r f
 pair_same l c line count regs r AnyPair e =
-    let both = both_true (is_steady (fact_at regs r)) (is_steady (fact_at regs (r + 1))) e in
+    let both = and_parts (is_steady (fact_at regs r)) (is_steady (fact_at regs (r + 1))) e in
     let low = byte_same l c line count regs r both.0 in
     let high = byte_same l c line count regs (r + 1) both.1 in
     λ i. hull (span_of_val (low i)) (span_of_val (high i))

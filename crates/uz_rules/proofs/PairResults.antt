@@ -1,19 +1,10 @@
 -- What SBIW tells: its flags are those of the pair less the constant.
-use Rattle.std.proofs.Common.{◌≡◌, ℕ, zero, suc, ◌+◌, ◌-◌, ◌*◌, ◌/◌, ◌%◌, ◌<◌, ◌≤◌, Bool, true, false, not, Some, nat_eq, nat_lt, nat_le}
-use Rattle.std.proofs.Common.{refl, sym, ap, ◌∙◌, subst, arith}
-use Rattle.std.specs.Prelude.{◌&&◌, pos, ◌-ℤ◌}
-use Rattle.std.proofs.lemmas.Bool.Decides.{nat_tests}
-use Rattle.std.proofs.lemmas.Int.{ints}
-use Rattle.uz_core.specs.Arithmetic.{AluResult, bit_value, bit_is_set, exclusive_or, signed, overflows, difference_of, chained_result}
-use Rattle.uz_core.specs.Arithmetic.{pair_difference_of, pair_result}
-use Rattle.uz_core.specs.Core.{Core, pair, with_pair, with_flags}
-use Rattle.uz_core.specs.CoreRange.{IsCore}
-use Rattle.uz_core.proofs.SregBits.{bit_of_merged, or_kept}
-use Rattle.uz_schedule.specs.Ends.{Ends}
-use Rattle.uz_schedule.specs.declared.facts.Compared.TheVariants.{PairResult}
-use Rattle.uz_range.specs.Containment.{IsWithin}
+use Rattle.uz_rules.proofs.Common.{value_stays, ◌≡◌, ℕ, zero, suc, ◌+◌, ◌-◌, ◌*◌, ◌/◌, ◌%◌, ◌<◌, ◌≤◌, Bool, true, false, not, Some, nat_eq}
+use Rattle.uz_rules.proofs.Common.{nat_lt, nat_le, refl, sym, ap, ◌∙◌, subst, arith, ◌&&◌, pos, ◌-ℤ◌, nat_tests, ints, AluResult, bit_value}
+use Rattle.uz_rules.proofs.Common.{bit_is_set, exclusive_or, signed, overflows, difference_of, chained_result, pair_difference_of}
+use Rattle.uz_rules.proofs.Common.{pair_result, Core, pair, with_pair, with_flags, IsCore, bit_of_merged, or_kept, Ends, PairResult}
+use Rattle.uz_rules.proofs.Common.{IsWithin, ComparedHolds}
 use Rattle.uz_range.specs.Flags.{flag_after}
-use Rattle.uz_rules.specs.ComparedHolds.{ComparedHolds}
 use Rattle.uz_rules.proofs.CoreKeeps.{pair_word}
 use Rattle.uz_rules.proofs.CoreSteps.{pair_is}
 
@@ -99,7 +90,6 @@ alike v l h k c t z b e bit zeros j few = by_zero z zeros j few
     by_zero true is (suc (suc zero)) few = ap (λ x. Some x) negative
     by_zero true is (suc (suc (suc zero))) few = ap (λ x. Some x) overflow
     by_zero true is (suc (suc (suc (suc zero)))) few = λ i. Some (exclusive_or (negative i) (overflow i))
-    by_zero true is (suc (suc (suc (suc (suc j))))) few = absurd (omega arith)
     by_zero false is zero few = ap (λ x. Some x) carry
     by_zero false is (suc zero) few =
         let some : 1 ≤ l + 256 * c - k = grind (arith, nat_tests) in
@@ -107,11 +97,7 @@ alike v l h k c t z b e bit zeros j few = by_zero z zeros j few
     by_zero false is (suc (suc zero)) few = ap (λ x. Some x) negative
     by_zero false is (suc (suc (suc zero))) few = ap (λ x. Some x) overflow
     by_zero false is (suc (suc (suc (suc zero)))) few = λ i. Some (exclusive_or (negative i) (overflow i))
-    by_zero false is (suc (suc (suc (suc (suc j))))) few = absurd (omega arith)
-
-chained_value : (r : AluResult) (z : Bool) → (chained_result r z).value ≡ r.value
-chained_value r true = refl
-chained_value r false = refl
+    by_zero z is (suc (suc (suc (suc (suc j))))) few = absurd (omega arith)
 
 -- the pair and its flags, where the low bytes borrow as t says, and their difference is 0 as z says
 record TellsBy (x k : ℕ) (t z : Bool) : Type 0 where
@@ -132,7 +118,7 @@ tells_by x k c t z b bit zeros =
     ap (λ n. (n + 65536 - k) % 65536) (sym whole) ∙ value_of l h k c b in
     let top : high_byte h c ≡ (chained_result (difference_of h (k / 256) t) z).value =
     ap (λ n. (h + 512 - (0 + n)) % 256) (sym bit) ∙ ap (λ n. (h + 512 - (n + bit_value t)) % 256) (sym high)
-    ∙ sym (chained_value (difference_of h (k / 256) t) z) in
+    ∙ sym (value_stays (difference_of h (k / 256) t) z) in
     record {
       value = v ∙ (λ i. sym low i + 256 * top i);
       flags = λ j w. subst (λ y. flag_after (result_at ((x + 65536 - k) % 65536) y) j ≡ flag_after (chained_result (difference_of h (k / 256)

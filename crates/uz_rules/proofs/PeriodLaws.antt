@@ -1,26 +1,13 @@
 -- What a point's facts say is the same after their period, so that the counts of one period tell of all.
-use Rattle.std.proofs.Common.{◌<◌, ◌≤◌, ◌≡◌, ℕ, zero, suc, ◌+◌, ◌-◌, ◌*◌, ◌/◌, ◌%◌, ◌^◌, min, Bool, true, false, List, [], ◌∷◌, All}
-use Rattle.std.proofs.Common.{map, length, nat_lt, refl, sym, ap, ap₂, ◌∙◌, subst, arith, inl, inr, pow_pos, pow-suc}
-use Rattle.std.proofs.Common.{mul_comm, mul_assoc, mul_left_comm, mul-add, suc-mul, slice_index_or}
-use Rattle.std.specs.List.{AllByRecursion, AllWithin}
+use Rattle.uz_rules.proofs.Common.{◌<◌, ◌≤◌, ◌≡◌, ℕ, zero, suc, ◌+◌, ◌-◌, ◌*◌, ◌/◌, ◌%◌, ◌^◌, min, Bool, true, false, List, [], ◌∷◌, All}
+use Rattle.uz_rules.proofs.Common.{map, length, nat_lt, refl, sym, ap, ap₂, ◌∙◌, subst, arith, inl, inr, pow_pos, pow-suc, mul_comm}
+use Rattle.uz_rules.proofs.Common.{mul_assoc, mul_left_comm, mul-add, suc-mul, slice_index_or, AllByRecursion, AllWithin, nat_tests}
+use Rattle.uz_rules.proofs.Common.{eqb_tells, get_or_default, Ends, Fact, Loop, PairFact, AnyPair, LoopPair, Range, Instance, Point, val_of}
+use Rattle.uz_rules.proofs.Common.{span_of_val, cell_span, pair_of, pairs_of, contents_inside, any_from, said_at, facts_inside, ByteRepeats}
+use Rattle.uz_rules.proofs.Common.{recursion_from_All, one_number}
 use Rattle.std.specs.Int.Count.{count_trailing_zeros, under}
-use Rattle.std.proofs.lemmas.Bool.Decides.{nat_tests, eqb_tells}
-use Rattle.std.proofs.lemmas.List.{get_or_default}
-use Rattle.std.proofs.lemmas.List.Elements.{recursion_from_All}
 use Rattle.std.proofs.lemmas.Nat.{pow-add, mod_below, div-add-mod'}
-use Rattle.uz_schedule.specs.Ends.{Ends, one_number}
-use Rattle.uz_schedule.specs.declared.facts.Fact.{Fact}
-use Rattle.uz_schedule.specs.declared.facts.Fact.TheVariants.{Loop}
-use Rattle.uz_schedule.specs.declared.facts.PairFact.{PairFact}
-use Rattle.uz_schedule.specs.declared.facts.PairFact.TheVariants.{Any as AnyPair, Loop as LoopPair}
-use Rattle.uz_schedule.specs.declared.facts.Val.TheVariants.{Range}
-use Rattle.uz_schedule.specs.declared.states.Instance.{Instance}
-use Rattle.uz_schedule.specs.declared.states.Point.{Point}
-use Rattle.uz_schedule.specs.Instances.{val_of, span_of_val, cell_span, pair_of, pairs_of}
-use Rattle.uz_rules.specs.Inside.{contents_inside}
-use Rattle.uz_rules.specs.Successors.{any_from}
-use Rattle.uz_rules.specs.FactInclusion.{said_at, facts_inside}
-use Rattle.uz_rules.specs.Periods.{count_factor, pair_count_factor, ByteRepeats, PairRepeats, PairsRepeat, PointRepeats}
+use Rattle.uz_rules.specs.Periods.{count_factor, pair_count_factor, PairRepeats, PairsRepeat, PointRepeats}
 use Rattle.uz_rules.proofs.AtCounts.{any_tells, any_holds}
 
 -- Multiples of powers of two

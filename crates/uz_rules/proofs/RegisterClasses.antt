@@ -1,54 +1,32 @@
 -- The classes of effect that change registers and flags alone.
-use Rattle.std.proofs.Common.{◌≡◌, inl, inr, ℕ, ◌+◌, ◌/◌, ◌%◌, ◌<◌, Bool, true, false, not, if◌then◌else◌, nat_eq, nat_lt, Some, None, List}
-use Rattle.std.proofs.Common.{[], ◌∷◌, length, refl, sym, ◌∙◌, ap, subst, arith}
-use Rattle.std.specs.Prelude.{slice_set, ◌&&◌}
+use Rattle.uz_rules.proofs.Common.{get_or-set_other, ◌≡◌, inl, inr, ℕ, ◌+◌, ◌/◌, ◌%◌, ◌<◌, Bool, true, false, not, if◌then◌else◌, nat_eq}
+use Rattle.uz_rules.proofs.Common.{nat_lt, Some, None, List, [], ◌∷◌, length, refl, sym, ◌∙◌, ap, subst, arith, slice_set, ◌&&◌, nat_cmp}
+use Rattle.uz_rules.proofs.Common.{AllByRecursion, length-set, FinMap, eqb_tells, nat_tests, Operand, BinaryOp, UnaryOp, CopyByte, Binary}
+use Rattle.uz_rules.proofs.Common.{Unary, AddToPair, Multiply, AluResult, bit_is_set, with_bit, chained_result, and_of, or_of, product_of}
+use Rattle.uz_rules.proofs.Common.{Core, register, pair, with_register, with_pair, with_sreg, with_flags, operand_value, binary_result}
+use Rattle.uz_rules.proofs.Common.{unary_result, add_to_pair_result, changed_core, IsByte, IsCore, OperandFits, EffectFits, Ends, Bit, Zero}
+use Rattle.uz_rules.proofs.Common.{Free, Val, Range, Head, Instance, IsWithin, MayBe, AdmitsAll, bst_answer, swap_covers, pair_add_covers}
+use Rattle.uz_rules.proofs.Common.{pair_sub_covers, bst_covers, bld_covers, exact_pair, span_of, value_at, flag_at, pair_range, with_value}
+use Rattle.uz_rules.proofs.Common.{with_pair_range, with_pair_value, with_flag_list, merged_flags, ValueHolds, FlagHolds, CoreMeets}
+use Rattle.uz_rules.proofs.Common.{bit_of_bool, with_flag, transfer, bit_of_with_bit, and_parts, Covers, CoversWide, chained_covers}
+use Rattle.uz_rules.proofs.Common.{difference_answer, bld_answer}
+use Rattle.uz_rules.proofs.CoreKeeps.{within_span, set_same, or_same, in_span, register_byte, pair_word, pair_holds, val_meets, range_meets}
+use Rattle.uz_rules.proofs.CoreKeeps.{core_with}
 use Rattle.std.specs.Int.Bits.{and_self, or_self}
-use Rattle.std.specs.Ordering.{nat_cmp}
-use Rattle.std.specs.List.{AllByRecursion}
-use Rattle.std.proofs.lemmas.List.{length-set}
-use Rattle.std.specs.FinMap.{FinMap}
-use Rattle.std.proofs.lemmas.Bool.Decides.{eqb_tells, nat_tests}
-use Rattle.uz_core.specs.declared.machine.Operand.{Operand}
 use Rattle.uz_core.specs.declared.machine.Operand.TheVariants.{Register, Constant}
-use Rattle.uz_core.specs.declared.machine.BinaryOp.{BinaryOp}
-use Rattle.uz_core.specs.declared.machine.BinaryOp.TheVariants as binary
-use Rattle.uz_core.specs.declared.machine.UnaryOp.{UnaryOp}
-use Rattle.uz_core.specs.declared.machine.UnaryOp.TheVariants as unary
-use Rattle.uz_core.specs.declared.machine.Effect.TheVariants.{CopyByte, Binary, Unary, AddToPair, Multiply}
-use Rattle.uz_core.specs.Arithmetic.{AluResult, bit_is_set, with_bit, chained_result, and_of, or_of, product_of}
-use Rattle.uz_core.specs.Core.{Core, register, pair, with_register, with_pair, with_sreg, with_flags, operand_value, binary_result}
-use Rattle.uz_core.specs.Core.{unary_result, add_to_pair_result, changed_core}
-use Rattle.uz_core.specs.CoreRange.{IsByte, IsCore}
-use Rattle.uz_core.specs.OperandRanges.{OperandFits, EffectFits}
 use Rattle.uz_core.proofs.ByteLists.{byte_at}
-use Rattle.uz_schedule.specs.Ends.{Ends}
-use Rattle.uz_schedule.specs.declared.facts.Bit.{Bit}
-use Rattle.uz_schedule.specs.declared.facts.Bit.TheVariants.{Zero, Free}
-use Rattle.uz_schedule.specs.declared.facts.Val.{Val}
-use Rattle.uz_schedule.specs.declared.facts.Val.TheVariants.{Range}
-use Rattle.uz_schedule.specs.declared.header.Head.{Head}
-use Rattle.uz_schedule.specs.declared.states.Instance.{Instance}
 use Rattle.uz_range.specs.declared.products.Form.TheVariants.{Mul, Muls, Mulsu, Fmul, Fmuls, Fmulsu}
-use Rattle.uz_range.specs.Containment.{IsWithin, MayBe, AdmitsAll, Covers, CoversWide}
-use Rattle.uz_range.specs.Rules.{difference_answer, bld_answer, bst_answer}
 use Rattle.uz_range.proofs.SumsCover.{sum_covers, difference_covers, negate_covers}
 use Rattle.uz_range.proofs.LogicCovers.{and_covers, or_covers, xor_covers, com_covers, step_up_covers, step_down_covers, lsr_covers}
 use Rattle.uz_range.proofs.LogicCovers.{asr_covers, ror_covers}
-use Rattle.uz_range.proofs.ChainedCovers.{chained_covers}
 use Rattle.uz_range.proofs.ItselfCovers.{same_and_covers, same_xor_covers, same_sub_covers}
-use Rattle.uz_range.proofs.PairsCover.{swap_covers, pair_add_covers, pair_sub_covers, bst_covers, bld_covers}
 use Rattle.uz_range.proofs.ProductsCover.{product_covers}
-use Rattle.uz_transfer.specs.Values.{exact_pair, span_of, value_at, flag_at, pair_range, with_value, with_pair_range, with_pair_value}
-use Rattle.uz_transfer.specs.Values.{with_flag_list, merged_flags}
-use Rattle.uz_rules.specs.CoreMeets.{ValueHolds, FlagHolds, CoreMeets}
 use Rattle.uz_transfer.specs.Arithmetic.{known_operand, binary_answer, same_register_answer, is_same_register, operation_answer}
 use Rattle.uz_transfer.specs.Arithmetic.{is_self_copy, operation_value, binary_keeps, unary_answer, unary_keeps, pair_keeps, factors_answer}
 use Rattle.uz_transfer.specs.Arithmetic.{product_keeps}
-use Rattle.uz_transfer.specs.Transfer.{bit_of_bool, with_flag, transfer}
-use Rattle.uz_rules.proofs.CoreKeeps.{set_same, or_other, or_same, in_span, register_byte, pair_word, pair_holds, val_meets, range_meets}
-use Rattle.uz_rules.proofs.CoreKeeps.{core_with}
-use Rattle.uz_core.proofs.SregBits.{bit_of_with_bit}
 use Rattle.uz_rules.proofs.CoreSteps.{exact_holds, core_same, may_be, told, KeepsAt, flags_meet, pair_val_meets, pair_is}
+use Rattle.uz_core.specs.declared.machine.BinaryOp.TheVariants as binary
+use Rattle.uz_core.specs.declared.machine.UnaryOp.TheVariants as unary
 
 -- Operands
 
@@ -73,7 +51,6 @@ pub copy_pair : (d r : ℕ) (inst : Instance) (o core : Core) → d < 31 → r <
     → CoreMeets (with_pair_range d (pair_range inst r) (with_value (d + 1) (value_at inst.regs (r + 1))
     (with_value d (value_at inst.regs r) inst))) o (with_pair d (pair core r) core)
 copy_pair d r inst o core bd br c h =
-    let x : ℕ = pair core r in
     let word = pair_word core r c in
     let rl = register_byte core r c in
     let low : register core r ≡ pair core r % 256 = omega (arith, rl) in
@@ -121,17 +98,13 @@ same_operand : (d : ℕ) (source : Operand) (core : Core) → is_same_register d
 same_operand d (Register r) core e = let i : d ≡ r = grind (arith, nat_tests) in ap (register core) (sym i)
 same_operand d (Constant k) core e = absurd cc
 
-and_true : (a b : Bool) → (a && b) ≡ true → (a ≡ true) × (b ≡ true)
-and_true true b e = (refl, e)
-and_true false b e = absurd cc
-
 answer_covers : (op : BinaryOp) (d : ℕ) (source : Operand) (compare : Bool) (inst : Instance) (o core : Core) → d < 32 → OperandFits source
     → IsCore core → CoreMeets inst o core
     → Covers (operation_answer op d source compare inst) (binary_result op (register core d) (operand_value source core) core.sreg)
 answer_covers op d source compare inst o core bd fits c h = by_case (is_same_register d source && not compare) refl
   where
     x : IsWithin (register core d) (span_of (value_at inst.regs d))
-    x = in_span _ o _ (register_byte core d c) (h.regs d bd)
+    x = within_span inst o core d c bd h
 
     by_case : (t : Bool) → (is_same_register d source && not compare) ≡ t
         → Covers (if t then same_register_answer op (span_of (value_at inst.regs d)) inst else binary_answer op
@@ -139,7 +112,7 @@ answer_covers op d source compare inst o core bd fits c h = by_case (is_same_reg
         (binary_result op (register core d) (operand_value source core) core.sreg)
     by_case true e =
         subst (λ y. Covers (same_register_answer op (span_of (value_at inst.regs d)) inst) (binary_result op (register core d) y core.sreg))
-        (sym (same_operand d source core (and_true (is_same_register d source) (not compare) e).0))
+        (sym (same_operand d source core (and_parts (is_same_register d source) (not compare) e).0))
         (itself_covers op _ (register core d) inst core.sreg (register_byte core d c) x (may_be _ _ _ (h.flags 0 (omega arith)))
         (may_be _ _ _ (h.flags 1 (omega arith))))
     by_case false e =
@@ -154,13 +127,9 @@ chained_keeps v c z n w s h true = refl
 chained_keeps v c z n w s h false = refl
 
 binary_keeps_at : (op : BinaryOp) (x y sreg : ℕ) → KeepsAt (binary_keeps op) (binary_result op x y sreg).flags
-binary_keeps_at (binary.Add false) x y sreg = refl
-binary_keeps_at (binary.Add true) x y sreg = refl
-binary_keeps_at (binary.Subtract false) x y sreg = refl
 binary_keeps_at (binary.Subtract true) x y sreg = chained_keeps _ _ _ _ _ _ _ (bit_is_set sreg 1)
-binary_keeps_at binary.And x y sreg = refl
-binary_keeps_at binary.Or x y sreg = refl
-binary_keeps_at binary.Xor x y sreg = refl
+binary_keeps_at (binary.Add true) x y sreg = refl
+binary_keeps_at op x y sreg = refl
 
 copied : (op : BinaryOp) (x sreg : ℕ) → is_self_copy op ≡ true → (binary_result op x x sreg).value ≡ x
 copied binary.And x sreg e = and_self x
@@ -178,7 +147,7 @@ binary_value op d source compare inst o core bd fits c h = by_case (is_same_regi
         → ValueHolds (if t then value_at inst.regs d else Range (operation_answer op d source compare inst).span) o
         (binary_result op (register core d) (operand_value source core) core.sreg).value
     by_case true e =
-        let both = and_true (is_same_register d source) (is_self_copy op) e in
+        let both = and_parts (is_same_register d source) (is_self_copy op) e in
         subst (λ n. ValueHolds (value_at inst.regs d) o n)
         (sym (ap (λ y. (binary_result op (register core d) y core.sreg).value) (same_operand d source core both.0)
         ∙ copied op (register core d) core.sreg both.1)) (h.regs d bd)
@@ -232,20 +201,14 @@ unary_covers unary.RotateRight a x inst sreg w h c = ror_covers a (flag_at inst.
 
 unary_keeps_at : (op : UnaryOp) (x sreg : ℕ) → KeepsAt (unary_keeps op) (unary_result op x sreg).flags
 unary_keeps_at unary.Complement x sreg = refl
-unary_keeps_at unary.Negate x sreg = refl
-unary_keeps_at unary.Swap x sreg = refl
-unary_keeps_at unary.Increment x sreg = refl
-unary_keeps_at unary.Decrement x sreg = refl
-unary_keeps_at unary.ArithmeticShiftRight x sreg = refl
-unary_keeps_at unary.LogicalShiftRight x sreg = refl
-unary_keeps_at unary.RotateRight x sreg = refl
+unary_keeps_at op x sreg = refl
 
 pub unary_meets : (op : UnaryOp) (d : ℕ) (head : Head) (image : FinMap nat_cmp ℕ) (following sampled words : ℕ) (loaded : List ℕ)
     (inst : Instance) (o core : Core) → EffectFits (Unary op d) → IsCore core
     → AllByRecursion IsByte (changed_core (Unary op d) image words loaded core).registers → CoreMeets inst o core
     → CoreMeets (transfer head image following sampled (Unary op d) inst) o (changed_core (Unary op d) image words loaded core)
 unary_meets op d head image following sampled words loaded inst o core fits c new h =
-    let x = in_span (value_at inst.regs d) o (register core d) (register_byte core d c) (h.regs d fits) in
+    let x = within_span inst o core d c fits h in
     let covers = unary_covers op (span_of (value_at inst.regs d)) (register core d) inst core.sreg (register_byte core d c) x
     (may_be _ _ _ (h.flags 0 (omega arith))) in
     result_meets d (Range (unary_answer op (span_of (value_at inst.regs d)) inst).span) (unary_result op (register core d) core.sreg)
@@ -309,8 +272,8 @@ pub multiply_meets : (d r : ℕ) (d_signed r_signed shifted : Bool) (head : Head
     (changed_core (Multiply d r d_signed r_signed shifted) image words loaded core)
 multiply_meets d r d_signed r_signed shifted head image following sampled words loaded inst o core fits c new h =
     let word = set_word core 0 (product_of (register core d) (register core r) d_signed r_signed shifted).value (omega arith) c.count new in
-    let x = in_span (value_at inst.regs d) o (register core d) (register_byte core d c) (h.regs d fits.0) in
-    let y = in_span (value_at inst.regs r) o (register core r) (register_byte core r c) (h.regs r fits.1) in
+    let x = within_span inst o core d c fits.0 h in
+    let y = within_span inst o core r c fits.1 h in
     let covers = factors_cover d_signed r_signed shifted (span_of (value_at inst.regs d)) (span_of (value_at inst.regs r)) (register core d)
     (register core r) x y word in
     wide_meets 0 _ (product_of (register core d) (register core r) d_signed r_signed shifted) product_keeps _ inst o core (omega arith) c
@@ -334,11 +297,11 @@ flag_meets k b t inst o core w hb h = record {
         | inr e ↦
             let is : bit_is_set (with_bit k t core.sreg) j ≡ bit_is_set core.sreg j = bit_of_with_bit k j core.sreg t (omega (arith, w))
             (omega (arith, v)) ∙ rw e.0 refl in
-            rw (is, or_other inst.flags k j b Free e.1) (h.flags j v)
+            rw (is, get_or-set_other inst.flags k j b Free e.1) (h.flags j v)
       ];
 }
 
-bool_holds : (t before : Bool) → FlagHolds (bit_of_bool t) before t
+pub bool_holds : (t before : Bool) → FlagHolds (bit_of_bool t) before t
 bool_holds true before = refl
 bool_holds false before = refl
 
@@ -368,7 +331,7 @@ pub load_bit_meets : (d b : ℕ) (inst : Instance) (o core : Core) → d < 32 �
     → CoreMeets (with_value d (Range (bld_answer (span_of (value_at inst.regs d)) b (flag_at inst.flags 6))) inst) o
     (with_register d (with_bit b (bit_is_set core.sreg 6) (register core d)) core)
 load_bit_meets d b inst o core bd bb c h byte =
-    let x = in_span (value_at inst.regs d) o (register core d) (register_byte core d c) (h.regs d bd) in
+    let x = within_span inst o core d c bd h in
     val_meets inst o core d _ _ c bd byte (bld_covers (span_of (value_at inst.regs d)) b (flag_at inst.flags 6) (register core d)
     (bit_is_set core.sreg 6) bb (register_byte core d c) x (may_be _ _ _ (h.flags 6 (omega arith)))) h
 
@@ -376,6 +339,6 @@ pub store_bit_meets : (d b : ℕ) (inst : Instance) (o core : Core) → d < 32 �
     → CoreMeets (with_flag 6 (bst_answer (span_of (value_at inst.regs d)) b) inst) o
     (with_sreg (with_bit 6 (bit_is_set (register core d) b) core.sreg) core)
 store_bit_meets d b inst o core bd c h =
-    let x = in_span (value_at inst.regs d) o (register core d) (register_byte core d c) (h.regs d bd) in
+    let x = within_span inst o core d c bd h in
     flag_meets 6 (bst_answer (span_of (value_at inst.regs d)) b) (bit_is_set (register core d) b) inst o core (omega arith)
     (told _ _ _ (bst_covers (span_of (value_at inst.regs d)) b (register core d) x)) h

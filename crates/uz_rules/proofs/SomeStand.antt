@@ -1,16 +1,8 @@
 -- Containment isn't about nothing.
-use Rattle.std.proofs.Common.{◌≡◌, ℕ, zero, suc, ◌+◌, ◌*◌, [], ◌∷◌, Some, None, refl, sym, subst, inl, arith}
-use Rattle.std.specs.Prelude.{slice_index, slice_index_or, replicate}
-use Rattle.uz_hex.specs.Cells.{word_of}
-use Rattle.avr_table.specs.declared.Instr.TheVariants.{Nop}
+use Rattle.uz_rules.proofs.Common.{◌≡◌, ℕ, zero, suc, ◌+◌, ◌*◌, [], ◌∷◌, Some, None, refl, sym, subst, inl, arith, slice_index}
+use Rattle.uz_rules.proofs.Common.{slice_index_or, replicate, word_of, Nop, Reads, words_of, clocks_of, effect_of, reset_is_state, Free}
+use Rattle.uz_rules.proofs.Common.{Range, ends, value_at}
 use Rattle.avr_table.specs.Pattern.{stands}
-use Rattle.avr_table.specs.Rows.{Reads, words_of, clocks_of}
-use Rattle.uz_core.specs.Effects.{effect_of}
-use Rattle.uz_core.proofs.StateKept.{reset_is_state}
-use Rattle.uz_schedule.specs.declared.facts.Bit.TheVariants.{Free}
-use Rattle.uz_schedule.specs.declared.facts.Val.TheVariants.{Range}
-use Rattle.uz_range.specs.Answers.{ends}
-use Rattle.uz_transfer.specs.Values.{value_at}
 use Rattle.uz_schedule.specs.Blank.{blank_instance}
 use Rattle.uz_rules.specs.Example.{example_head, SomeInstructionBegins}
 use Rattle.uz_rules.proofs.CoreSteps.{seven_at}
@@ -31,10 +23,8 @@ zeros (suc n) zero = refl
 zeros (suc n) (suc r) = zeros n r
 
 whole_pairs : (k : ℕ) → slice_index_or (ends 0 65535 ∷ ends 0 65535 ∷ ends 0 65535 ∷ []) k (ends 0 65535) ≡ ends 0 65535
-whole_pairs zero = refl
-whole_pairs (suc zero) = refl
-whole_pairs (suc (suc zero)) = refl
 whole_pairs (suc (suc (suc k))) = refl
+whole_pairs k = refl
 
 pub some_stand : SomeInstructionBegins
 some_stand lines image flash first second = (

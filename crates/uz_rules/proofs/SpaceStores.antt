@@ -1,14 +1,8 @@
 -- What a store does to RAM and to the level of sync, and which events it shows.
-use Rattle.std.proofs.Common.{◌≡◌, ◌≢◌, ℕ, ◌+◌, ◌%◌, ◌^◌, ◌<◌, ◌≤◌, Bool, true, false, if◌then◌else◌, nat_eq, nat_lt, length, refl, sym}
-use Rattle.std.proofs.Common.{◌∙◌, ap, arith}
-use Rattle.std.specs.Prelude.{slice_index, bit_xor}
-use Rattle.std.proofs.lemmas.Bool.Decides.{nat_tests}
-use Rattle.std.proofs.lemmas.Nat.Bits.{bit_at_lowest, bit_at_xor}
-use Rattle.uz_core.specs.declared.machine.HeldStore.TheVariants.{Bit}
-use Rattle.uz_core.specs.Arithmetic.{with_bit}
-use Rattle.uz_core.specs.Timer.{is_timer_address}
-use Rattle.uz_core.specs.Space.{PadWiring, Space, is_pin, byte_at, after_byte, after_store, takes_one_bit}
-use Rattle.uz_core.specs.Turn.{sync_level}
+use Rattle.uz_rules.proofs.Common.{◌≡◌, ◌≢◌, ℕ, ◌+◌, ◌%◌, ◌^◌, ◌<◌, ◌≤◌, Bool, true, false, if◌then◌else◌, nat_eq, nat_lt, length, refl}
+use Rattle.uz_rules.proofs.Common.{sym, ◌∙◌, ap, arith, slice_index, bit_xor, nat_tests, bit_at_lowest, BitCall as Bit, with_bit}
+use Rattle.uz_rules.proofs.Common.{is_timer_address, PadWiring, Space, is_pin, byte_at, after_byte, after_store, takes_one_bit, sync_level}
+use Rattle.std.proofs.lemmas.Nat.Bits.{bit_at_xor}
 use Rattle.uz_rules.proofs.CoreKeeps.{set_same, set_other}
 use Rattle.uz_rules.proofs.MemoryKeeps.{Wrote}
 

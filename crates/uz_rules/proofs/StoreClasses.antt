@@ -1,47 +1,15 @@
 -- The classes of effect that store: ST and OUT, PUSH, the pushes of a call, SBI and CBI.
-use Rattle.std.proofs.Common.{◌≡◌, ◌≢◌, ◌⊎◌, inl, inr, ℕ, suc, ◌+◌, ◌-◌, ◌/◌, ◌%◌, ◌<◌, ◌≤◌, Bool, true, false, not, if◌then◌else◌, nat_eq}
-use Rattle.std.proofs.Common.{nat_lt, nat_le, Option, Some, None, List, [], ◌∷◌, ◌++◌, fold, filter, length, refl, sym, ◌∙◌, ap, subst}
-use Rattle.std.proofs.Common.{append_assoc, arith}
-use Rattle.std.specs.Prelude.{◌&&◌, ◌||◌}
-use Rattle.std.specs.List.{AllByRecursion}
-use Rattle.std.proofs.lemmas.Bool.Decides.{eqb_tells, nat_tests}
-use Rattle.std.proofs.lemmas.List.{append-nil}
-use Rattle.std.proofs.lemmas.List.Elements.{filter_map-append}
-use Rattle.std.proofs.lemmas.Nat.Bits.{bit_at_above}
-use Rattle.std.specs.Int.{bit_at}
-use Rattle.uz_core.specs.declared.machine.HeldStore.{HeldStore}
-use Rattle.uz_core.specs.declared.machine.HeldStore.TheVariants.{Byte, Bit as BitCall}
-use Rattle.uz_core.specs.declared.machine.EdgeKind.{EdgeKind}
-use Rattle.uz_core.specs.Arithmetic.{bit_is_set}
-use Rattle.uz_core.specs.Core.{Core, is_core_address, with_store, leaves_core}
-use Rattle.uz_core.specs.CoreRange.{IsCore}
-use Rattle.uz_core.specs.Space.{PadWiring, Space, after_byte, after_store}
-use Rattle.uz_core.specs.Turn.{sync_level, edge_kinds, after_stores, all_edge_kinds}
-use Rattle.uz_schedule.specs.Ends.{Ends}
-use Rattle.uz_schedule.specs.declared.kinds.Kind.{Kind}
-use Rattle.uz_schedule.specs.declared.kinds.Kind.TheVariants.{Main, Handler, Alone}
-use Rattle.uz_schedule.specs.declared.facts.Bit.{Bit}
-use Rattle.uz_schedule.specs.declared.facts.Bit.TheVariants.{Zero, One, Free, Old as OldBit}
-use Rattle.uz_schedule.specs.declared.facts.Val.{Val}
-use Rattle.uz_schedule.specs.declared.facts.Val.TheVariants.{Range, Old, OldFlags}
-use Rattle.uz_schedule.specs.declared.header.Head.{Head}
-use Rattle.uz_schedule.specs.declared.lines.EventKind.{EventKind}
-use Rattle.uz_schedule.specs.declared.states.Instance.{Instance}
-use Rattle.uz_range.specs.Answers.{ends, is_single}
-use Rattle.uz_range.specs.Containment.{IsWithin, Admits}
-use Rattle.uz_range.proofs.ShapesCover.{only}
-use Rattle.uz_range.specs.Rules.{bst_answer}
-use Rattle.uz_range.proofs.PairsCover.{bst_covers}
-use Rattle.uz_transfer.specs.Values.{span_of, with_flag_list, known_byte}
-use Rattle.uz_rules.specs.CoreMeets.{ValueHolds, CoreMeets}
-use Rattle.uz_transfer.specs.Kinds.{cell_place, cell_range, misses, depth_limit, is_main}
-use Rattle.uz_rules.specs.MemoryMeets.{depth_below, MemoryMeets, HeadFits}
-use Rattle.uz_transfer.specs.Memory.{flags_from, with_cell, with_stored, stored_in, with_slots}
-use Rattle.uz_transfer.specs.Transfer.{pc_values}
-use Rattle.uz_transfer.specs.Emission.{byte_event, bit_event, level_after}
-use Rattle.uz_transfer.specs.Refusals.{is_setup_register, stored_bit, flag_is, cell_admits, may_store, mask_fails}
-use Rattle.uz_rules.specs.Events.{event_of}
-use Rattle.uz_rules.specs.OneStep.{IsNoEntry}
+use Rattle.uz_rules.proofs.Common.{◌≡◌, ◌≢◌, ◌⊎◌, inl, inr, ℕ, suc, ◌+◌, ◌-◌, ◌/◌, ◌%◌, ◌<◌, ◌≤◌, Bool, true, false, if◌then◌else◌}
+use Rattle.uz_rules.proofs.Common.{nat_eq, nat_lt, nat_le, Option, Some, None, List, [], ◌∷◌, ◌++◌, fold, filter, length, refl, sym, ◌∙◌}
+use Rattle.uz_rules.proofs.Common.{ap, subst, append_assoc, arith, ◌&&◌, ◌||◌, AllByRecursion, eqb_tells, nat_tests, append-nil}
+use Rattle.uz_rules.proofs.Common.{bit_at_above, bit_at, HeldStore, Byte, BitCall, EdgeKind, bit_is_set, Core, is_core_address, with_store}
+use Rattle.uz_rules.proofs.Common.{leaves_core, IsCore, PadWiring, Space, after_byte, after_store, sync_level, edge_kinds, after_stores}
+use Rattle.uz_rules.proofs.Common.{all_edge_kinds, Ends, Kind, Main, Bit, Zero, One, Val, Range, Old, OldFlags, Head, EventKind, Instance}
+use Rattle.uz_rules.proofs.Common.{ends, is_single, IsWithin, Admits, only, bst_answer, bst_covers, span_of, with_flag_list, known_byte}
+use Rattle.uz_rules.proofs.Common.{ValueHolds, CoreMeets, cell_place, cell_range, misses, depth_limit, is_main, depth_below, MemoryMeets}
+use Rattle.uz_rules.proofs.Common.{HeadFits, flags_from, with_cell, with_stored, stored_in, with_slots, pc_values, byte_event, bit_event}
+use Rattle.uz_rules.proofs.Common.{level_after, is_setup_register, stored_bit, flag_is, cell_admits, may_store, mask_fails, event_of}
+use Rattle.uz_rules.proofs.Common.{IsNoEntry, and_parts, or_cases, not-false, not-true, filter_map-append}
 use Rattle.uz_rules.proofs.CoreKeeps.{in_span}
 use Rattle.uz_rules.proofs.MemoryKeeps.{tracked_has_range, missed, stored_meets, kept_meets, push_meets}
 use Rattle.uz_rules.proofs.SpaceStores.{byte_wrote, bit_kept}
@@ -92,8 +60,7 @@ ram_shows w s at v size low b = byte_shows w s at v (sync_level s) (Range (ends 
 pub room_left : (head : Head) (kind : Kind) (d sp depth n : ℕ) → HeadFits head → d ≤ head.main → sp + depth + depth_below kind d ≡ head.hi
     → depth + n ≤ depth_limit head kind → head.lo + n ≤ suc sp
 room_left head Main d sp depth n fits h e few = omega (arith, fits.room)
-room_left head Handler d sp depth n fits h e few = omega (arith, fits.room)
-room_left head Alone d sp depth n fits h e few = omega (arith, fits.room)
+room_left head kind d sp depth n fits h e few = omega (arith, fits.room)
 
 -- PUSH
 
@@ -175,14 +142,6 @@ pub record Stored {P : Type 0} (w : PadWiring P) (head : Head) (inst r : Instanc
   pub sp : (fold with_store core (Byte at v ∷ [])).sp ≡ core.sp
   pub leads : Leads w head r o d core.sp (filter leaves_core (Byte at v ∷ [])) s emitted
 
-and_true : (a b : Bool) → (a && b) ≡ true → (a ≡ true) × (b ≡ true)
-and_true true b e = (refl, e)
-and_true false b e = absurd cc
-
-either : (a b : Bool) → (a || b) ≡ true → (a ≡ true) ⊎ (b ≡ true)
-either true b e = inl refl
-either false b e = inr e
-
 cell_core : (place : Option ℕ) (e : Ends) (inst : Instance) (o core : Core) → CoreMeets inst o core → CoreMeets (with_cell place e inst) o
     core
 cell_core (Some j) e inst o core h = record { regs = h.regs; pairs = h.pairs; flags = h.flags }
@@ -190,15 +149,10 @@ cell_core None e inst o core h = h
 
 -- bit 7 of a value that is stored to SREG is the kind's I
 
-is_false : (m : Bool) → not m ≡ true → m ≡ false
-is_false true e = absurd cc
-is_false false e = refl
-
 top_by : (b : Bit) (t main : Bool) → Admits b (Some t) → flag_is b main ≡ true → t ≡ main
-top_by Zero t main a q = let z : t ≡ false = cc in z ∙ sym (is_false main q)
+top_by Zero t main a q = let z : t ≡ false = cc in z ∙ sym (not-true main q)
 top_by One t main a q = let z : t ≡ true = cc in z ∙ sym q
-top_by Free t main a q = absurd cc
-top_by OldBit t main a q = absurd cc
+top_by b t main a q = absurd cc
 
 stored_top : (v : Val) (o : Core) (x : ℕ) (main : Bool) → ValueHolds v o x → flag_is (stored_bit v 7) main ≡ true → bit_is_set x 7 ≡ main
 stored_top (Range e) o x main h q = top_by (bst_answer e 7) (bit_is_set x 7) main (bst_covers e 7 x h) q
@@ -216,15 +170,11 @@ sreg_stored : {P : Type 0} (w : PadWiring P) (head : Head) (inst : Instance) (o 
     0x5F v core s None
 sreg_stored w head inst o d v val core s fits c h m b hv mask = record {
   meets = record { regs = h.regs; pairs = h.pairs; flags = stored_flags val o v hv };
-  enabled = stored_top val o v (is_main inst.kind) hv (not_false _ mask);
+  enabled = stored_top val o v (is_main inst.kind) hv (not-false _ mask);
   is_core = record { count = c.count; registers = c.registers; sreg = b; sp = c.sp; pc = c.pc };
   sp = refl;
   leads = record { memory = record { slots = m.slots; cells = m.cells; ranges = m.ranges; depth = m.depth }; shows = none_shows w s };
 }
-  where
-    not_false : (t : Bool) → not t ≡ false → t ≡ true
-    not_false true e = refl
-    not_false false e = absurd cc
 
 -- to the data space, off the stack
 space_stored : {P : Type 0} (w : PadWiring P) (head : Head) (inst : Instance) (o : Core) (d at v : ℕ) (e : Ends) (core : Core) (s : Space P)
@@ -276,13 +226,11 @@ cell_taken head kind at v e = by_case (cell_place head kind at) (cell_range head
     by_case : (place : Option ℕ) (range : Option Ends) → cell_place head kind at ≡ place → cell_range head at ≡ range → cell_admits place
         range v ≡ true → Taken head kind at v
     by_case (Some j) (Some r) q p e =
-        let both = and_true (nat_le r.lo v.lo) (nat_le v.hi r.hi) e in
+        let both = and_parts (nat_le r.lo v.lo) (nat_le v.hi r.hi) e in
         let first = both.0 in
         let second = both.1 in
         record { place = j; placed = q; range = r; is = p; low = grind (arith, nat_tests); high = grind (arith, nat_tests) }
-    by_case (Some j) None q p e = absurd cc
-    by_case None (Some r) q p e = absurd cc
-    by_case None None q p e = absurd cc
+    by_case place range q p e = absurd cc
 
 none_is : (emitted : Option EventKind) → Some None ≡ Some emitted → emitted ≡ None
 none_is emitted e = cc
@@ -296,13 +244,13 @@ pub record FreeRam (head : Head) (a : Ends) : Type 0 where
 pub free_by : (head : Head) (a : Ends) → ((nat_le 0x100 a.lo && nat_le a.hi 0x10FF) && ((nat_lt a.hi head.lo || nat_lt head.hi a.lo)
     && misses head.cells.items a)) ≡ true → FreeRam head a
 free_by head a e =
-    let both = and_true (nat_le 0x100 a.lo && nat_le a.hi 0x10FF) _ e in
-    let ram = and_true (nat_le 0x100 a.lo) (nat_le a.hi 0x10FF) both.0 in
-    let off = and_true (nat_lt a.hi head.lo || nat_lt head.hi a.lo) (misses head.cells.items a) both.1 in
+    let both = and_parts (nat_le 0x100 a.lo && nat_le a.hi 0x10FF) _ e in
+    let ram = and_parts (nat_le 0x100 a.lo) (nat_le a.hi 0x10FF) both.0 in
+    let off = and_parts (nat_lt a.hi head.lo || nat_lt head.hi a.lo) (misses head.cells.items a) both.1 in
     let first = ram.0 in
     record {
       low = grind (arith, nat_tests);
-      off = elim (either (nat_lt a.hi head.lo) (nat_lt head.hi a.lo) off.0) [
+      off = elim (or_cases (nat_lt a.hi head.lo) (nat_lt head.hi a.lo) off.0) [
         | inl t ↦ inl (grind (arith, nat_tests))
         | inr t ↦ inr
             (grind (arith, nat_tests))
@@ -353,9 +301,9 @@ store_stored {P} w head inst o d at v a val core s emitted fits size c h enabled
         → byte_event (sync_level s) val at ≡ Some emitted
         → Stored w head inst (with_cell (cell_place head inst.kind at) (span_of val) inst) o d at v core s emitted
     at_one one i sreg io may e =
-        elim (either (is_single a && (nat_le 0x20 a.lo && nat_le a.lo 0xFF)) _ may) [
+        elim (or_cases (is_single a && (nat_le 0x20 a.lo && nat_le a.lo 0xFF)) _ may) [
           | inl t ↦
-              let both = and_true (nat_le 0x20 a.lo) (nat_le a.lo 0xFF) (and_true (is_single a) _ t).1 in
+              let both = and_parts (nat_le 0x20 a.lo) (nat_le a.lo 0xFF) (and_parts (is_single a) _ t).1 in
               let first = both.0 in
               let second = both.1 in
               let above : 0x20 ≤ at = grind (arith, nat_tests) in
@@ -364,10 +312,10 @@ store_stored {P} w head inst o d at v a val core s emitted fits size c h enabled
               (not_core at above io sreg) b (inl (omega (arith, below, fits.low)))
               (λ r p. absurd (omega (arith, below, (fits.cells_ram at r p).0))) span refl (shows e)
           | inr t ↦
-              elim (either (is_single a && cell_admits (cell_place head inst.kind a.lo) (cell_range head a.lo) (span_of val)) _ t) [
+              elim (or_cases (is_single a && cell_admits (cell_place head inst.kind a.lo) (cell_range head a.lo) (span_of val)) _ t) [
                 | inl u ↦
                     let k = subst (λ n. cell_admits (cell_place head inst.kind n) (cell_range head n) (span_of val) ≡ true) i
-                    (and_true (is_single a) _ u).1 in
+                    (and_parts (is_single a) _ u).1 in
                     let taken = cell_taken head inst.kind at (span_of val) k in
                     space_stored w head inst o d at v (span_of val) core s emitted (cell_place head inst.kind at) fits size c h enabled m
                     low (ram_not_core at (fits.cells_ram at taken.range taken.is).0) b (fits.cells_off at taken.range taken.is)

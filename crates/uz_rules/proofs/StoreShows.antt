@@ -1,31 +1,12 @@
 -- The events that a store shows, and the level of sync after it, are what the abstract store emits.
-use Rattle.std.proofs.Common.{◌≡◌, ◌≢◌, inl, inr, ℕ, zero, suc, ◌+◌, ◌-◌, ◌%◌, ◌^◌, ◌<◌, Bool, true, false, if◌then◌else◌, nat_eq, Option}
-use Rattle.std.proofs.Common.{Some, None, List, [], ◌∷◌, ◌++◌, length, refl, sym, ◌∙◌, ap, subst, arith}
-use Rattle.std.specs.Prelude.{◌||◌, ◌&&◌, ◌==◌}
-use Rattle.std.specs.List.{filter_map, AllByRecursion}
-use Rattle.std.proofs.lemmas.Bool.Decides.{eqb_tells, nat_tests}
-use Rattle.std.proofs.lemmas.Nat.Bits.{bit_at_lowest}
-use Rattle.uz_core.specs.declared.machine.HeldStore.TheVariants.{Byte, Bit as BitCall}
-use Rattle.uz_core.specs.declared.machine.EdgeKind.{EdgeKind}
-use Rattle.uz_core.specs.declared.machine.EdgeKind.TheVariants.{Sync as SyncEdge, Pixel as PixelEdge, Sound as SoundEdge}
-use Rattle.uz_core.specs.Arithmetic.{bit_is_set, with_bit}
-use Rattle.uz_core.specs.Space.{PadWiring, Space, plain_byte, byte_at, after_byte, after_store, takes_one_bit, is_store}
-use Rattle.uz_core.specs.Turn.{sync_level, edge_kinds}
-use Rattle.uz_schedule.specs.declared.facts.Bit.{Bit}
-use Rattle.uz_schedule.specs.declared.facts.Bit.TheVariants.{Zero, One, Free, Old as OldBit}
-use Rattle.uz_schedule.specs.declared.facts.Val.{Val}
-use Rattle.uz_schedule.specs.declared.lines.EventKind.{EventKind}
-use Rattle.uz_schedule.specs.declared.lines.EventKind.TheVariants.{Sync, Pixel, Sound}
-use Rattle.uz_range.specs.Containment.{IsWithin, Admits}
-use Rattle.uz_range.specs.Rules.{bst_answer}
-use Rattle.uz_range.proofs.PairsCover.{bst_covers}
-use Rattle.uz_transfer.specs.Values.{span_of}
-use Rattle.uz_transfer.specs.Emission.{level_event, toggle_event, byte_event, bit_event, level_after}
-use Rattle.uz_transfer.specs.Transfer.{bit_of_bool}
-use Rattle.uz_rules.specs.Events.{event_of}
-use Rattle.uz_rules.specs.OneStep.{IsNoEntry}
+use Rattle.uz_rules.proofs.Common.{◌≡◌, ◌≢◌, inl, inr, ℕ, zero, suc, ◌+◌, ◌-◌, ◌%◌, ◌^◌, ◌<◌, Bool, true, false, if◌then◌else◌, nat_eq}
+use Rattle.uz_rules.proofs.Common.{Option, Some, None, List, [], ◌∷◌, ◌++◌, length, refl, sym, ◌∙◌, ap, subst, arith, ◌||◌, ◌&&◌, ◌==◌}
+use Rattle.uz_rules.proofs.Common.{filter_map, AllByRecursion, eqb_tells, nat_tests, bit_at_lowest, Byte, BitCall, EdgeKind, SyncEdge}
+use Rattle.uz_rules.proofs.Common.{PixelEdge, SoundEdge, bit_is_set, with_bit, PadWiring, Space, plain_byte, byte_at, after_byte}
+use Rattle.uz_rules.proofs.Common.{after_store, takes_one_bit, sync_level, edge_kinds, Bit, Zero, One, Val, EventKind, Sync, Pixel, Sound}
+use Rattle.uz_rules.proofs.Common.{IsWithin, Admits, bst_answer, bst_covers, span_of, level_event, toggle_event, byte_event, bit_event}
+use Rattle.uz_rules.proofs.Common.{level_after, bit_of_bool, event_of, IsNoEntry, bit_of_with_bit, and_right, same_Some, is_store}
 use Rattle.uz_rules.proofs.SpaceStores.{level_other, level_stored, level_toggled}
-use Rattle.uz_core.proofs.SregBits.{bit_of_with_bit}
 
 abbrev pub kinds_listed : Option EventKind → List EventKind
 kinds_listed None = []
@@ -70,33 +51,28 @@ by_none old new pixel p sound v e f g =
 
 -- what is known of a level tells its event
 
-some_same : {A : Type 0} (x y : A) → Some x ≡ Some y → x ≡ y
-some_same x y e = cc
-
 low_bit : (v : ℕ) (b : Bool) → bit_is_set v 0 ≡ b → v % 2 ≡ (if b then 1 else 0)
 low_bit v true e = let l = bit_at_lowest v in grind (arith, nat_tests)
 low_bit v false e = let l = bit_at_lowest v in grind (arith, nat_tests)
 
 stored_event : (level : ℕ) (b : Bit) (v : ℕ) (emitted : Option EventKind) → Admits b (Some (bit_is_set v 0)) → level_event level b ≡ Some
     emitted → emitted ≡ sync_event level (v % 2)
-stored_event level Zero v emitted a e = let n : v % 2 ≡ 0 = low_bit v false (cc) in rw n (sym (some_same _ _ e))
-stored_event level One v emitted a e = let n : v % 2 ≡ 1 = low_bit v true (cc) in rw n (sym (some_same _ _ e))
-stored_event level Free v emitted a e = absurd cc
-stored_event level OldBit v emitted a e = absurd cc
+stored_event level Zero v emitted a e = let n : v % 2 ≡ 0 = low_bit v false (cc) in rw n (sym (same_Some _ _ e))
+stored_event level One v emitted a e = let n : v % 2 ≡ 1 = low_bit v true (cc) in rw n (sym (same_Some _ _ e))
+stored_event level b v emitted a e = absurd cc
 
 toggled_event : (level : ℕ) (b : Bit) (v : ℕ) (emitted : Option EventKind) → level < 2 → Admits b (Some (bit_is_set v 0))
     → toggle_event level b ≡ Some emitted → emitted ≡ sync_event level ((level + v % 2) % 2)
 toggled_event level Zero v emitted h a e =
     let n : v % 2 ≡ 0 = low_bit v false (cc) in
     let s : nat_eq level ((level + v % 2) % 2) ≡ true = (let i : (level + v % 2) % 2 ≡ level = omega arith in grind (arith, nat_tests)) in
-    rw s (sym (some_same _ _ e))
+    rw s (sym (same_Some _ _ e))
 toggled_event level One v emitted h a e =
     let n : v % 2 ≡ 1 = low_bit v true (cc) in
     let i : (level + v % 2) % 2 ≡ 1 - level = omega arith in
     let s : nat_eq level (1 - level) ≡ false = (let j : level ≢ 1 - level = (λ q. omega (arith, q)) in grind (arith, nat_tests)) in
-    rw (i, s) (sym (some_same _ _ e))
-toggled_event level Free v emitted h a e = absurd cc
-toggled_event level OldBit v emitted h a e = absurd cc
+    rw (i, s) (sym (same_Some _ _ e))
+toggled_event level b v emitted h a e = absurd cc
 
 -- A byte is stored
 
@@ -132,26 +108,26 @@ byte_shows {P} w s at v level val emitted size is within e = by_case (nat_eq at 
         let new : sync_level (after_byte w 0x26 v s) ≡ level = level_other w s 0x26 v (λ q. omega (arith, q)) (λ q. omega (arith, q))
         ∙ is in
         subst (λ a. ByteShows w s level v a emitted) (sym i)
-        (rw (sym (some_same _ _ e), is) (by_pixel level (sync_level (after_byte w 0x26 v s)) (plain_byte (after_byte w 0x26 v s) 0x28) 0
+        (rw (sym (same_Some _ _ e), is) (by_pixel level (sync_level (after_byte w 0x26 v s)) (plain_byte (after_byte w 0x26 v s) 0x28) 0
         new))
     by_case false false false true f p q r t u e =
         let i : at ≡ 0x28 = grind (arith, nat_tests) in
         let new : sync_level (after_byte w 0x28 v s) ≡ level = level_other w s 0x28 v (λ q. omega (arith, q)) (λ q. omega (arith, q))
         ∙ is in
         subst (λ a. ByteShows w s level v a emitted) (sym i)
-        (rw (sym (some_same _ _ e), is) (by_pixel level (sync_level (after_byte w 0x28 v s)) (plain_byte (after_byte w 0x28 v s) 0x28) 0
+        (rw (sym (same_Some _ _ e), is) (by_pixel level (sync_level (after_byte w 0x28 v s)) (plain_byte (after_byte w 0x28 v s) 0x28) 0
         new))
     by_case false false false false true p q r t u e =
         let i : at ≡ 0xB3 = grind (arith, nat_tests) in
         let new : sync_level (after_byte w 0xB3 v s) ≡ level = level_other w s 0xB3 v (λ q. omega (arith, q)) (λ q. omega (arith, q))
         ∙ is in
         subst (λ a. ByteShows w s level v a emitted) (sym i)
-        (rw (sym (some_same _ _ e), is) (by_sound level (sync_level (after_byte w 0xB3 v s)) 0 (plain_byte (after_byte w 0xB3 v s) 0xB3)
+        (rw (sym (same_Some _ _ e), is) (by_sound level (sync_level (after_byte w 0xB3 v s)) 0 (plain_byte (after_byte w 0xB3 v s) 0xB3)
         new))
     by_case false false false false false p q r t u e =
         let new : sync_level (after_byte w at v s) ≡ level = level_other w s at v (λ i. grind (arith, nat_tests))
         (λ i. grind (arith, nat_tests)) ∙ is in
-        rw (sym (some_same _ _ e))
+        rw (sym (same_Some _ _ e))
         (subst (λ l. Shows (kinds_by l (sync_level (after_byte w at v s)) (at == 0x28 || at == 0x26) (plain_byte (after_byte w at v s) 0x28)
         (at == 0xB3) (plain_byte (after_byte w at v s) 0xB3)) level (sync_level (after_byte w at v s)) None) (sym is)
         (by_none level (sync_level (after_byte w at v s)) (at == 0x28 || at == 0x26) (plain_byte (after_byte w at v s) 0x28) (at == 0xB3)
@@ -184,10 +160,6 @@ one_bit zero = refl
 one_bit (suc b) = let e : nat_eq (suc b) 0 ≡ false = grind (arith, nat_tests) in rw e (let p : 2 ^ suc b ≡ 2 ^ b + 2 ^ b = omega arith in
     omega arith)
 
-and_false : (a b : Bool) → b ≡ false → (a && b) ≡ false
-and_false true b e = e
-and_false false b e = refl
-
 kept_level : {P : Type 0} (w : PadWiring P) (s : Space P) (at b : ℕ) (set : Bool) → at ≢ 0x23 → at ≢ 0x25
     → sync_level (after_store w (BitCall at b set) s) ≡ sync_level s
 kept_level {P} w s at b set p q = by_case (takes_one_bit at) set
@@ -202,8 +174,8 @@ pin_shows : {P : Type 0} (w : PadWiring P) (s : Space P) (b level : ℕ) (set : 
     → sync_level s ≡ level
     → (if nat_eq b 0 && set then Some (Some (Sync (1 - level))) else Some None) ≡ Some emitted → BitShows w s level b set 0x23 emitted
 pin_shows {P} w s b level false emitted size is e =
-    let n : (nat_eq b 0 && false) ≡ false = and_false (nat_eq b 0) false refl in
-    let q : emitted ≡ None = sym (some_same _ _ (rw n at e)) in
+    let n : (nat_eq b 0 && false) ≡ false = and_right (nat_eq b 0) false refl in
+    let q : emitted ≡ None = sym (same_Some _ _ (rw n at e)) in
     rw (q, is) (by_none level level false 0 false 0 refl refl refl)
 pin_shows {P} w s b level true emitted size is e = by_case (nat_eq b 0) refl e
   where
@@ -215,11 +187,11 @@ pin_shows {P} w s b level true emitted size is e = by_case (nat_eq b 0) refl e
     by_case true p e =
         let v : (level + (if nat_eq b 0 then 1 else 0)) % 2 ≡ 1 - level = rw p (omega (arith, is)) in
         let t : nat_eq level (1 - level) ≡ false = (let j : level ≢ 1 - level = (λ q. omega (arith, q)) in grind (arith, nat_tests)) in
-        let f : emitted ≡ sync_event level (1 - level) = rw t (sym (some_same _ _ e)) in
+        let f : emitted ≡ sync_event level (1 - level) = rw t (sym (same_Some _ _ e)) in
         rw (f, is, new, v) (by_sync level (1 - level) 0 0)
     by_case false p e =
         let v : (level + (if nat_eq b 0 then 1 else 0)) % 2 ≡ level = rw p (omega (arith, is)) in
-        let f : emitted ≡ None = sym (some_same _ _ e) in
+        let f : emitted ≡ None = sym (same_Some _ _ e) in
         rw (f, is, new, v) (by_none level level false 0 false 0 refl refl refl)
 
 port_shows : {P : Type 0} (w : PadWiring P) (s : Space P) (b level : ℕ) (set : Bool) (emitted : Option EventKind) → length s.bytes ≡ 4352
@@ -234,10 +206,10 @@ port_shows {P} w s b level set emitted size h is e =
     by_case : (t u : Bool) → nat_eq b 0 ≡ t → sync_level (after_byte w 0x25 (with_bit b u (plain_byte s 0x25)) s)
         ≡ (if t then (if u then 1 else 0) else plain_byte s 0x25 % 2)
         → (if t then level_event level (bit_of_bool u) else Some None) ≡ Some emitted → BitShows w s level b u 0x25 emitted
-    by_case true true p new e = rw (sym (some_same _ _ e), is, new) (by_sync level 1 0 0)
-    by_case true false p new e = rw (sym (some_same _ _ e), is, new) (by_sync level 0 0 0)
-    by_case false true p new e = rw (sym (some_same _ _ e), is, new) (by_none level (plain_byte s 0x25 % 2) false 0 false 0 is refl refl)
-    by_case false false p new e = rw (sym (some_same _ _ e), is, new) (by_none level (plain_byte s 0x25 % 2) false 0 false 0 is refl refl)
+    by_case true true p new e = rw (sym (same_Some _ _ e), is, new) (by_sync level 1 0 0)
+    by_case true false p new e = rw (sym (same_Some _ _ e), is, new) (by_sync level 0 0 0)
+    by_case false true p new e = rw (sym (same_Some _ _ e), is, new) (by_none level (plain_byte s 0x25 % 2) false 0 false 0 is refl refl)
+    by_case false false p new e = rw (sym (same_Some _ _ e), is, new) (by_none level (plain_byte s 0x25 % 2) false 0 false 0 is refl refl)
 
 pub bit_shows : {P : Type 0} (w : PadWiring P) (s : Space P) (at b level : ℕ) (set : Bool) (emitted : Option EventKind)
     → length s.bytes ≡ 4352 → at < 64 → b < 8 → sync_level s ≡ level
@@ -249,9 +221,9 @@ bit_shows {P} w s at b level set emitted size low h is e = by_case (nat_eq at 0x
     clear_pin true e =
         let new : sync_level (after_byte w 0x26 (2 ^ b) s) ≡ level = level_other w s 0x26 (2 ^ b) (λ q. omega (arith, q))
         (λ q. omega (arith, q)) ∙ is in
-        rw (sym (some_same _ _ e), is) (by_pixel level (sync_level (after_byte w 0x26 (2 ^ b) s))
+        rw (sym (same_Some _ _ e), is) (by_pixel level (sync_level (after_byte w 0x26 (2 ^ b) s))
         (plain_byte (after_byte w 0x26 (2 ^ b) s) 0x28) 0 new)
-    clear_pin false e = rw (sym (some_same _ _ e), is) (by_none level level false 0 false 0 refl refl refl)
+    clear_pin false e = rw (sym (same_Some _ _ e), is) (by_none level level false 0 false 0 refl refl refl)
 
     by_case : (a f c d : Bool) → nat_eq at 0x23 ≡ a → nat_eq at 0x25 ≡ f → nat_eq at 0x26 ≡ c → nat_eq at 0x28 ≡ d
         → (if a then (if nat_eq b 0 && set then Some (Some (Sync (1 - level))) else Some None) else if f then
@@ -269,10 +241,9 @@ bit_shows {P} w s at b level set emitted size low h is e = by_case (nat_eq at 0x
         subst (λ a. BitShows w s level b set a emitted) (sym i) (clear_pin set e)
     by_case false false false true p q r t e =
         let i : at ≡ 0x28 = grind (arith, nat_tests) in
-        let v : ℕ = with_bit b set (plain_byte s 0x28) in
         let new : sync_level (after_byte w 0x28 (with_bit b set (plain_byte s 0x28)) s) ≡ level = level_other w s 0x28
         (with_bit b set (plain_byte s 0x28)) (λ q. omega (arith, q)) (λ q. omega (arith, q)) ∙ is in
-        subst (λ a. BitShows w s level b set a emitted) (sym i) (by_set set (some_same _ _ e) new)
+        subst (λ a. BitShows w s level b set a emitted) (sym i) (by_set set (same_Some _ _ e) new)
       where
         by_set : (u : Bool) → Some Pixel ≡ emitted → sync_level (after_byte w 0x28 (with_bit b u (plain_byte s 0x28)) s) ≡ level
             → BitShows w s level b u 0x28 emitted
@@ -281,10 +252,9 @@ bit_shows {P} w s at b level set emitted size low h is e = by_case (nat_eq at 0x
         by_set false e new = rw (sym e, is) (by_pixel level (sync_level (after_byte w 0x28 (with_bit b false (plain_byte s 0x28)) s))
             (plain_byte (after_byte w 0x28 (with_bit b false (plain_byte s 0x28)) s) 0x28) 0 new)
     by_case false false false false p q r t e =
-        let t' : Space P = after_store w (BitCall at b set) s in
         let new : sync_level (after_store w (BitCall at b set) s) ≡ level = kept_level w s at b set (λ i. grind (arith, nat_tests))
         (λ i. grind (arith, nat_tests)) ∙ is in
-        rw (sym (some_same _ _ e))
+        rw (sym (same_Some _ _ e))
         (subst (λ l. Shows (kinds_by l (sync_level (after_store w (BitCall at b set) s))
         (is_store (BitCall at b set) && (at == 0x28 || at == 0x26)) (plain_byte (after_store w (BitCall at b set) s) 0x28)
         (is_store (BitCall at b set) && at == 0xB3) (plain_byte (after_store w (BitCall at b set) s) 0xB3)) level
@@ -292,5 +262,5 @@ bit_shows {P} w s at b level set emitted size low h is e = by_case (nat_eq at 0x
         (by_none level (sync_level (after_store w (BitCall at b set) s)) (is_store (BitCall at b set) && (at == 0x28 || at == 0x26))
         (plain_byte (after_store w (BitCall at b set) s) 0x28) (is_store (BitCall at b set) && at == 0xB3)
         (plain_byte (after_store w (BitCall at b set) s) 0xB3) new
-        (and_false (is_store (BitCall at b set)) (at == 0x28 || at == 0x26) (grind (arith, nat_tests)))
-        (and_false (is_store (BitCall at b set)) (at == 0xB3) (grind (arith, nat_tests)))))
+        (and_right (is_store (BitCall at b set)) (at == 0x28 || at == 0x26) (grind (arith, nat_tests)))
+        (and_right (is_store (BitCall at b set)) (at == 0xB3) (grind (arith, nat_tests)))))

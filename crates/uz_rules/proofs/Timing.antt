@@ -1,45 +1,19 @@
 -- How the timer goes on with an instance's clock and pending match, and what loads and stores leave of it.
-use Rattle.std.proofs.Common.{◌≡◌, ◌⊎◌, inl, inr, ℕ, suc, ◌+◌, ◌-◌, ◌*◌, ◌/◌, ◌%◌, ◌^◌, ◌<◌, ◌≤◌, Bool, true, false, not, if◌then◌else◌}
-use Rattle.std.proofs.Common.{nat_eq, nat_lt, nat_le, Some, None, List, [], ◌∷◌, filter, refl, sym, ◌∙◌, ap, subst, arith}
-use Rattle.std.specs.Prelude.{◌&&◌, ◌||◌}
-use Rattle.std.proofs.lemmas.Bool.Decides.{eqb_tells, nat_tests}
+use Rattle.uz_rules.proofs.Common.{push_room, call_room, ◌≡◌, ◌⊎◌, inl, inr, ℕ, suc, ◌+◌, ◌-◌, ◌*◌, ◌/◌, ◌%◌, ◌^◌, ◌<◌, ◌≤◌, Bool, true}
+use Rattle.uz_rules.proofs.Common.{false, not, if◌then◌else◌, nat_eq, nat_lt, nat_le, Some, None, List, [], ◌∷◌, filter, refl, sym, ◌∙◌, ap}
+use Rattle.uz_rules.proofs.Common.{subst, arith, ◌&&◌, ◌||◌, eqb_tells, nat_tests, bit_at, Effect, Store, PushByte, WriteIoBit, Jump, Byte}
+use Rattle.uz_rules.proofs.Common.{BitCall, bit_is_set, with_bit, Core, register, is_core_address, effective_address, following_pc}
+use Rattle.uz_rules.proofs.Common.{content_after_loads, stores_of, leaves_core, EffectFits, Timer, is_counting, count_after, matches_within}
+use Rattle.uz_rules.proofs.Common.{timer_after, is_timer_address, PadWiring, Space, is_pin, byte_at, after_byte, after_store, takes_one_bit}
+use Rattle.uz_rules.proofs.Common.{space_loads, after_stores, Ends, Kind, Bit, Zero, One, Val, Range, Head, Instance, is_single, is_known}
+use Rattle.uz_rules.proofs.Common.{IsWithin, Admits, bst_answer, only, bst_covers, value_at, ValueHolds, is_main, is_handler, address_range}
+use Rattle.uz_rules.proofs.Common.{is_setup_register, stored_bit, flag_is, flag_fails, may_store, fail_of, clears_flag, not-false}
+use Rattle.uz_rules.proofs.Classes.{room_for, facts_of, Before, unless_none, single_fails, io_fine}
 use Rattle.std.proofs.lemmas.Nat.Bits.{bit_at-pow_other}
-use Rattle.std.specs.Int.{bit_at}
 use Rattle.std.proofs.Math.Nat.{mod-eq_of_lt, mod-eq-sub-mod, mod-lt}
-use Rattle.uz_core.specs.declared.machine.Effect.{Effect}
-use Rattle.uz_core.specs.declared.machine.Effect.TheVariants.{NoOperation, Store, PushByte, WriteIoBit, Jump}
-use Rattle.uz_core.specs.declared.machine.HeldStore.TheVariants.{Byte, Bit as BitCall}
-use Rattle.uz_core.specs.Arithmetic.{bit_is_set, with_bit}
-use Rattle.uz_core.specs.Core.{Core, register, is_core_address, effective_address, following_pc, content_after_loads, stores_of}
-use Rattle.uz_core.specs.Core.{leaves_core}
-use Rattle.uz_core.specs.OperandRanges.{EffectFits}
-use Rattle.uz_core.specs.Timer.{Timer, is_counting, count_after, matches_within, timer_after, is_timer_address}
-use Rattle.uz_core.specs.Space.{PadWiring, Space, is_pin, byte_at, after_byte, after_store, takes_one_bit, space_loads}
-use Rattle.uz_core.specs.Turn.{after_stores}
-use Rattle.uz_schedule.specs.Ends.{Ends}
-use Rattle.uz_schedule.specs.declared.kinds.Kind.{Kind}
-use Rattle.uz_schedule.specs.declared.facts.Bit.{Bit}
-use Rattle.uz_schedule.specs.declared.facts.Bit.TheVariants.{Zero, One, Free, Old as OldBit}
-use Rattle.uz_schedule.specs.declared.facts.Val.{Val}
-use Rattle.uz_schedule.specs.declared.facts.Val.TheVariants.{Range, Old, OldFlags}
-use Rattle.uz_schedule.specs.declared.header.Head.{Head}
-use Rattle.uz_schedule.specs.declared.states.Instance.{Instance}
-use Rattle.uz_range.specs.Answers.{is_single, is_known}
-use Rattle.uz_range.specs.Containment.{IsWithin, Admits}
-use Rattle.uz_range.specs.Rules.{bst_answer}
-use Rattle.uz_range.proofs.ShapesCover.{only}
-use Rattle.uz_range.proofs.PairsCover.{bst_covers}
-use Rattle.uz_transfer.specs.Values.{value_at}
-use Rattle.uz_rules.specs.CoreMeets.{ValueHolds}
-use Rattle.uz_transfer.specs.Kinds.{depth_limit, is_main, is_handler}
-use Rattle.uz_transfer.specs.Memory.{address_range, depth_of}
-use Rattle.uz_transfer.specs.Refusals.{is_setup_register, stored_bit, flag_is, flag_fails, may_store, fail_of}
-use Rattle.uz_transfer.specs.Step.{clears_flag}
 use Rattle.uz_rules.proofs.SpaceStores.{choose_if}
-use Rattle.uz_rules.proofs.StoreClasses.{SetsNothingElse, free_by, room_left}
+use Rattle.uz_rules.proofs.StoreClasses.{SetsNothingElse, free_by}
 use Rattle.uz_rules.proofs.CoreSteps.{address_holds}
-use Rattle.uz_rules.proofs.Classes.{Before, unless_none, not_false, single_fails, io_fine}
-use Rattle.uz_rules.proofs.LeavesHold.{facts_of}
 use Rattle.uz_rules.proofs.LoadClasses.{ram_not_core}
 
 -- What is left of a timer: OCF1A where it isn't cleared, and all else but OCR1A and TEMP, which have these values
@@ -119,32 +93,19 @@ timer_other at io f low high =
 -- TIFR1
 flag_written : {P : Type 0} (w : PadWiring P) (s : Space P) (v : ℕ) (clears : Bool) → bit_is_set v 1 ≡ clears
     → Beside clears s.timer.top s.timer.temp s.timer (after_byte w 0x36 v s).timer
-flag_written w s v true e = rw e (record {
-  count = refl;
-  top = refl;
-  temp = refl;
-  matched = refl;
-  mask = refl;
-  control_a = refl;
-  control_b = refl;
-})
+flag_written w s v true e =
+    rw e (record { count = refl; top = refl; temp = refl; matched = refl; mask = refl; control_a = refl; control_b = refl })
 flag_written w s v false e = rw e (beside_itself s.timer)
 
 known_bit : (b : Bit) (t : Bool) → Admits b (Some t) → is_known b ≡ true → t ≡ flag_is b true
 known_bit Zero t a k = cc
 known_bit One t a k = cc
-known_bit Free t a k = absurd cc
-known_bit OldBit t a k = absurd cc
+known_bit b t a k = absurd cc
 
 written_bit : (v : Val) (o : Core) (x : ℕ) → ValueHolds v o x → is_known (stored_bit v 1) ≡ true → bit_is_set x 1 ≡ flag_is (stored_bit v 1)
     true
 written_bit (Range e) o x h k = known_bit (bst_answer e 1) (bit_is_set x 1) (bst_covers e 1 x h) k
-written_bit (Old r) o x h k = absurd cc
-written_bit OldFlags o x h k = absurd cc
-
-or_false : (a b : Bool) → (a || b) ≡ false → (a ≡ false) × (b ≡ false)
-or_false true b e = absurd cc
-or_false false b e = (refl, e)
+written_bit v o x h k = absurd cc
 
 -- one byte that is held, at an address that isn't the timer's
 held_byte : {P : Type 0} (w : PadWiring P) (s : Space P) (at v : ℕ) → is_timer_address at ≡ false
@@ -158,10 +119,8 @@ held_byte {P} w s at v other = by_case (is_core_address at)
 -- ST, STD, STS, OUT
 
 known_by : (m h k : Bool) → (m || h) ≡ true → (m || (h && not k)) ≡ false → k ≡ true
-known_by true h k e f = absurd cc
 known_by false true true e f = refl
-known_by false true false e f = absurd cc
-known_by false false k e f = absurd cc
+known_by m h k e f = absurd cc
 
 -- OCR1A and TEMP after a byte is stored
 abbrev ocr_stored : ℕ → ℕ → Timer → ℕ
@@ -284,26 +243,20 @@ pub stores_beside : {P : Type 0} (w : PadWiring P) (e : Effect) (head : Head) (w
 stores_beside w (Store to r) head words d inst o core before s fits beside b fail =
     let facts = facts_of head inst to r fail in
     store_at w head inst.kind (effective_address to core) (register core r) (address_range to inst) (value_at inst.regs r) o s beside
-    (b.meets.regs r fits.1) (address_holds to inst o core b.is_core fits.0 b.meets) facts.flag (not_false _ facts.may)
+    (b.meets.regs r fits.1) (address_holds to inst o core b.is_core fits.0 b.meets) facts.flag (not-false _ facts.may)
     (λ one. (io_fine inst (address_range to inst).lo (value_at inst.regs r) (single_fails _ _ facts.io one)).setup)
 stores_beside w (PushByte r) head words d inst o core before s fits beside b fail =
-    let free : nat_le (depth_limit head inst.kind) (depth_of inst) ≡ false = (unless_none _ _ _ fail).0 in
-    let few : depth_of inst + 1 ≤ depth_limit head inst.kind = grind (arith, nat_tests) in
-    let room = room_left head inst.kind d core.sp (depth_of inst) 1 b.fits b.few b.memory.depth few in
+    let room = room_for head inst o d core before b 1 (omega (arith, push_room head inst r fail)) in
     let ram : 256 ≤ core.sp = omega (arith, b.fits.low, room) in
     held_byte w s core.sp (register core r) (timer_high core.sp ram)
 stores_beside w (WriteIoBit at bit set) head words d inst o core before s fits beside b fail =
     let io = (unless_none _ _ _ (unless_none _ _ _ fail).1).0 in
     bit_at_port w s at bit set fits.0.1 io
 stores_beside w (Jump target true) head words d inst o core before s fits beside b fail =
-    let free : nat_lt (depth_limit head inst.kind) (depth_of inst + 2) ≡ false = (unless_none _ _ _ fail).0 in
-    let few : depth_of inst + 2 ≤ depth_limit head inst.kind = grind (arith, nat_tests) in
-    let room = room_left head inst.kind d core.sp (depth_of inst) 2 b.fits b.few b.memory.depth few in
+    let room = room_for head inst o d core before b 2 (call_room head inst target fail) in
     let high : 256 ≤ (core.sp + 65535) % 65536 = omega (arith, b.fits.low, room, b.is_core.sp) in
     two_high w s core.sp ((core.sp + 65535) % 65536) (following_pc words core % 256) (following_pc words core / 256)
     (omega (arith, b.fits.low, room)) high
-stores_beside w (Jump target false) head words d inst o core before s fits beside b fail = beside_itself s.timer
-stores_beside w NoOperation head words d inst o core before s fits beside b fail = beside_itself s.timer
 stores_beside w e head words d inst o core before s fits beside b fail = beside_itself s.timer
 
 -- So many clocks

@@ -1,33 +1,15 @@
 -- What is known of OCR1A and TEMP after an instruction's loads and stores.
-use Rattle.std.proofs.Common.{◌≡◌, ℕ, ◌+◌, ◌*◌, ◌/◌, ◌%◌, ◌<◌, ◌≤◌, Bool, true, false, if◌then◌else◌, nat_eq, nat_le, [], ◌∷◌}
-use Rattle.std.proofs.Common.{None, refl, sym, ◌∙◌, ap, subst, arith}
-use Rattle.std.specs.Prelude.{◌&&◌}
-use Rattle.std.proofs.lemmas.Bool.Decides.{nat_tests}
-use Rattle.uz_core.specs.declared.machine.AddressMode.{AddressMode}
-use Rattle.uz_core.specs.declared.machine.Effect.{Effect}
-use Rattle.uz_core.specs.declared.machine.Effect.TheVariants.{NoOperation, Load, Store, PopByte, Return, SkipIf}
-use Rattle.uz_core.specs.declared.machine.SkipTest.TheVariants.{Equal, RegisterBit, IoBit}
-use Rattle.uz_core.specs.Core.{Core, register, is_core_address, effective_address, load_addresses, content_after_loads}
-use Rattle.uz_core.specs.OperandRanges.{EffectFits}
-use Rattle.uz_core.specs.Timer.{Timer, timer_after}
-use Rattle.uz_core.specs.Space.{PadWiring, Space, space_loads}
-use Rattle.uz_schedule.specs.Ends.{Ends}
-use Rattle.uz_schedule.specs.declared.header.Head.{Head}
-use Rattle.uz_schedule.specs.declared.states.Instance.{Instance}
-use Rattle.uz_range.specs.Answers.{is_single}
-use Rattle.uz_range.specs.Containment.{IsWithin}
-use Rattle.uz_range.proofs.ShapesCover.{only}
-use Rattle.uz_transfer.specs.Values.{span_of, value_at}
-use Rattle.uz_transfer.specs.Kinds.{is_handler}
-use Rattle.uz_transfer.specs.Memory.{address_range}
-use Rattle.uz_transfer.specs.Refusals.{fail_of}
+use Rattle.uz_rules.proofs.Common.{◌≡◌, ℕ, ◌+◌, ◌*◌, ◌/◌, ◌%◌, ◌<◌, ◌≤◌, Bool, true, false, if◌then◌else◌, nat_eq, nat_le, [], ◌∷◌, None}
+use Rattle.uz_rules.proofs.Common.{refl, sym, ◌∙◌, ap, subst, arith, ◌&&◌, nat_tests, AddressMode, Effect, Load, Store, PopByte, Return}
+use Rattle.uz_rules.proofs.Common.{SkipIf, IoBit, Core, register, is_core_address, effective_address, load_addresses, content_after_loads}
+use Rattle.uz_rules.proofs.Common.{EffectFits, Timer, timer_after, PadWiring, Space, space_loads, Ends, Head, Instance, is_single, IsWithin}
+use Rattle.uz_rules.proofs.Common.{only, span_of, value_at, is_handler, address_range, fail_of, and_parts, not-false}
+use Rattle.uz_rules.proofs.Classes.{facts_of, Before, low_room, single_fails, io_fine}
+use Rattle.uz_rules.proofs.CoreKeeps.{within_span}
 use Rattle.uz_transfer.specs.Timer.{top_after, temp_loaded, temp_after}
-use Rattle.uz_rules.proofs.CoreKeeps.{in_span, register_byte}
 use Rattle.uz_rules.proofs.CoreSteps.{address_holds}
 use Rattle.uz_rules.proofs.LoadClasses.{ram_not_core}
 use Rattle.uz_rules.proofs.StoreClasses.{free_by}
-use Rattle.uz_rules.proofs.Classes.{Before, low_room, not_false, single_fails, io_fine}
-use Rattle.uz_rules.proofs.LeavesHold.{facts_of}
 use Rattle.uz_rules.proofs.Timing.{ocr_after, temp_left}
 
 -- Loads
@@ -107,9 +89,6 @@ loads_temp w (Return t) head late sampled d inst o core s fits b held byte is lo
 loads_temp w (SkipIf (IoBit at bit set)) head late sampled d inst o core s fits b held byte is low =
     let port = fits.0.1 in
     rw (far_load w late s at (grind (arith, nat_tests))) held
-loads_temp w (SkipIf (Equal a c)) head late sampled d inst o core s fits b held byte is low = held
-loads_temp w (SkipIf (RegisterBit a bit set)) head late sampled d inst o core s fits b held byte is low = held
-loads_temp w NoOperation head late sampled d inst o core s fits b held byte is low = held
 loads_temp w e head late sampled d inst o core s fits b held byte is low = held
 
 -- Stores
@@ -127,7 +106,7 @@ low_test head to r n d inst o core s fits b fail low = by_case (is_single (addre
         → nat_eq (effective_address to core) n ≡ (t && nat_eq (address_range to inst).lo n)
     by_case true one = ap (λ a. nat_eq a n) (sym (only (address_range to inst) (effective_address to core) one within))
     by_case false many =
-        let may = not_false _ (facts_of head inst to r fail).may in
+        let may = not-false _ (facts_of head inst to r fail).may in
         let f = free_by head (address_range to inst) (rw many at may) in
         let high : 256 ≤ effective_address to core = omega (arith, f.low, within.above) in
         grind (arith, nat_tests)
@@ -136,10 +115,6 @@ low_test head to r n d inst o core s fits b fail low = by_case (is_single (addre
 pub record Known (e : Effect) (inst : Instance) (core : Core) (sampled : ℕ) (t : Timer) : Type 0 where
   pub top : ocr_after e core t ≡ top_after e inst
   pub temp : IsWithin (temp_left e core t) (temp_after sampled e inst)
-
-and_true : (a b : Bool) → (a && b) ≡ true → (a ≡ true) × (b ≡ true)
-and_true true b e = (refl, e)
-and_true false b e = absurd cc
 
 pub stores_known : {P : Type 0} (e : Effect) (head : Head) (d sampled : ℕ) (inst : Instance) (o core : Core) (s : Space P) (t : Timer)
     → EffectFits e → is_handler inst.kind ≡ true → Before head inst o d core s → fail_of head e inst ≡ None → t.top ≡ inst.top
@@ -153,19 +128,19 @@ stores_known (Store to r) head d sampled inst o core s t fits handler b fail top
     }
   where
     value : IsWithin (register core r) (span_of (value_at inst.regs r))
-    value = in_span (value_at inst.regs r) o (register core r) (register_byte core r b.is_core) (b.meets.regs r fits.1)
+    value = within_span inst o core r b.is_core fits.1 b.meets
 
     top_by : (stores : Bool) → (is_single (address_range to inst) && nat_eq (address_range to inst).lo 0x88) ≡ stores
         → (if stores then t.temp * 256 + register core r else t.top)
         ≡ (if stores then inst.temp.lo * 256 + (span_of (value_at inst.regs r)).lo else inst.top)
     top_by true e =
-        let one = and_true (is_single (address_range to inst)) _ e in
+        let one = and_parts (is_single (address_range to inst)) _ e in
         let fine = io_fine inst (address_range to inst).lo (value_at inst.regs r)
         (single_fails _ _ (facts_of head inst to r fail).io one.0) in
-        let known = and_true (is_single inst.temp) _ (not_false _ (fine.low one.1).1) in
+        let known = and_parts (is_single inst.temp) _ (not-false _ (fine.low one.1).1) in
         let same : inst.temp.lo ≡ t.temp = only inst.temp t.temp known.0 held in
         let also : (span_of (value_at inst.regs r)).lo ≡ register core r = only (span_of (value_at inst.regs r)) (register core r)
-        (and_true (is_single (span_of (value_at inst.regs r))) _ known.1).0 value in
+        (and_parts (is_single (span_of (value_at inst.regs r))) _ known.1).0 value in
         rw (same, also) refl
     top_by false e = top
 
@@ -174,7 +149,6 @@ stores_known (Store to r) head d sampled inst o core s t fits handler b fail top
     temp_by true = value
     temp_by false = held
 stores_known (Load to from) head d sampled inst o core s t fits handler b fail top held = record { top = top; temp = rw handler held }
-stores_known NoOperation head d sampled inst o core s t fits handler b fail top held = record { top = top; temp = held }
 stores_known e head d sampled inst o core s t fits handler b fail top held = record { top = top; temp = held }
 
 -- outside a handler OCR1A stays
@@ -187,11 +161,10 @@ top_stays (Store to r) head d inst o core s t fits out b fail =
     by_case : (stores : Bool) → (is_single (address_range to inst) && nat_eq (address_range to inst).lo 0x88) ≡ stores
         → (if stores then t.temp * 256 + register core r else t.top) ≡ t.top
     by_case true e =
-        let one = and_true (is_single (address_range to inst)) _ e in
+        let one = and_parts (is_single (address_range to inst)) _ e in
         let fine = io_fine inst (address_range to inst).lo (value_at inst.regs r)
         (single_fails _ _ (facts_of head inst to r fail).io one.0) in
         let handler : is_handler inst.kind ≡ true = (fine.low one.1).0 in
         absurd cc
     by_case false e = refl
-top_stays NoOperation head d inst o core s t fits out b fail = refl
 top_stays e head d inst o core s t fits out b fail = refl

@@ -1,27 +1,13 @@
 -- Where a visit of a point's instances comes to.
-use Rattle.std.proofs.Common.{◌≡◌, ℕ, ◌+◌, Bool, true, false, Option, Some, None, refl, sym, ◌∙◌, ap, subst, if◌then◌else◌}
-use Rattle.std.specs.Prelude.{slice_get, option_and_then}
-use Rattle.std.specs.Ordering.{nat_cmp}
-use Rattle.std.specs.FinMap.{FinMap}
-use Rattle.uz_schedule.specs.declared.lines.Schedule.{Schedule}
-use Rattle.uz_schedule.specs.declared.states.Instance.{Instance}
-use Rattle.uz_schedule.specs.declared.states.Point.{Point}
-use Rattle.uz_schedule.specs.declared.certificate.Cert.{Cert}
-use Rattle.uz_schedule.specs.Schedule.{start_of, level_at}
-use Rattle.uz_schedule.specs.Instances.{is_in_box, clock_at, instance_of, instance_at_clock, instance_in, instance_at}
-use Rattle.uz_schedule.specs.WellFormed.{WellFormed}
-use Rattle.uz_rules.specs.Moving.{place_at_clock, place_in, IsVarying, IsOfPoint}
-use Rattle.uz_rules.specs.Limits.{InstanceLimits}
+use Rattle.uz_rules.proofs.Common.{◌≡◌, ℕ, ◌+◌, Bool, true, false, Option, Some, None, refl, sym, ◌∙◌, ap, subst, if◌then◌else◌, slice_get}
+use Rattle.uz_rules.proofs.Common.{option_and_then, nat_cmp, FinMap, Schedule, Instance, Point, Cert, start_of, level_at, is_in_box}
+use Rattle.uz_rules.proofs.Common.{clock_at, instance_of, instance_at_clock, instance_in, instance_at, WellFormed, IsVarying, IsOfPoint}
+use Rattle.uz_rules.proofs.Common.{InstanceLimits, local_fail, IsLocal, Fail, IsReadAt, same_Some}
+use Rattle.uz_rules.specs.Moving.{place_at_clock, place_in}
 use Rattle.uz_rules.proofs.LimitsHold.{instance_limits}
 use Rattle.uz_rules.specs.declared.visit.Visit.{Visit}
 use Rattle.uz_rules.specs.Visit.{Keeps, IsVisit, IsAt}
-use Rattle.uz_rules.specs.Local.{local_fail, IsLocal}
 use Rattle.uz_rules.proofs.LocalLaws.{is_local}
-use Rattle.uz_transfer.specs.declared.fail.Fail.{Fail}
-use Rattle.uz_transfer.specs.Step.{IsReadAt}
-
-some_same : {A : Type 0} (a b : A) → Some a ≡ Some b → a ≡ b
-some_same a b e = cc
 
 -- The place of a point
 
@@ -32,7 +18,7 @@ placed s p l c clock level e = by_box (is_in_box p l c) e
     by_level : (k : ℕ) (v : Option ℕ) → option_and_then {U = ℕ × ℕ} (λ x. Some (k, x)) v ≡ Some (clock, level)
         → option_and_then (λ x. Some (instance_of p l c k x)) v ≡ Some (instance_of p l c clock level)
     by_level k None e = absurd cc
-    by_level k (Some v) e = ap (λ (q : ℕ × ℕ). Some (instance_of p l c q.0 q.1)) (some_same (k, v) (clock, level) e)
+    by_level k (Some v) e = ap (λ (q : ℕ × ℕ). Some (instance_of p l c q.0 q.1)) (same_Some (k, v) (clock, level) e)
 
     by_clock : (k : Option ℕ) → option_and_then (place_at_clock s l) k ≡ Some (clock, level)
         → option_and_then (instance_at_clock s p l c) k ≡ Some (instance_of p l c clock level)
@@ -71,7 +57,7 @@ said_in s p l c inst e = by_box (is_in_box p l c) e
       count = c;
       clock = k;
       level = v;
-      is = sym (some_same (instance_of p l c k v) inst e);
+      is = sym (same_Some (instance_of p l c k v) inst e);
     }
 
     by_clock : (k : Option ℕ) → option_and_then (instance_at_clock s p l c) k ≡ Some inst → IsOfPoint p inst
@@ -136,18 +122,15 @@ there_limits cert id l c p visit fits at = instance_limits cert id l c visit.at 
 
 -- What a visit has of its point
 
-point_same : (p q : Point) → Some p ≡ Some q → p ≡ q
-point_same p q e = cc
-
 pub keeps_all : (image : FinMap nat_cmp ℕ) (cert : Cert) (id : ℕ) (p : Point) (visit : Visit) → IsVisit image cert id visit
     → slice_get cert.points id ≡ Some p → Keeps p visit
 keeps_all image cert id p visit v found =
-    subst (λ (q : Point). Keeps q visit) (point_same v.point p (sym v.is_point ∙ found)) v.keeps
+    subst (λ (q : Point). Keeps q visit) (same_Some v.point p (sym v.is_point ∙ found)) v.keeps
 
 visit_reads : (image : FinMap nat_cmp ℕ) (cert : Cert) (id : ℕ) (p : Point) (visit : Visit) → IsVisit image cert id visit
     → slice_get cert.points id ≡ Some p → IsReadAt image p.pc visit.row
 visit_reads image cert id p visit v found =
-    subst (λ (q : Point). IsReadAt image q.pc visit.row) (point_same v.point p (sym v.is_point ∙ found)) v.reads
+    subst (λ (q : Point). IsReadAt image q.pc visit.row) (same_Some v.point p (sym v.is_point ∙ found)) v.reads
 
 pub tells : (image : FinMap nat_cmp ℕ) (cert : Cert) (id l c : ℕ) (p : Point) (visit : Visit) (why : Option Fail)
     → IsVisit image cert id visit → slice_get cert.points id ≡ Some p

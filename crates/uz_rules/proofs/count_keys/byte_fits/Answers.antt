@@ -1,9 +1,4 @@
-use Rattle.std.proofs.Common.{rules, ◌≡◌, ◌<◌, ◌∙◌, length, map}
-use Rattle.std.proofs.lemmas.List.{get_or_default}
-use Rattle.uz_schedule.specs.declared.facts.Val.TheVariants.{Range}
-use Rattle.uz_schedule.specs.Instances.{val_of}
-use Rattle.uz_range.specs.Answers.{ends}
-use Rattle.uz_transfer.specs.Values.{value_at}
+use Rattle.uz_rules.proofs.Common.{rules, ◌≡◌, ◌<◌, ◌∙◌, length, map, get_or_default, Range, val_of, ends, value_at}
 use Rattle.uz_rules.proofs.CountKeys.{value_fits}
 use Rattle.uz_rules.proofs.count_keys.byte_fits.Goals as goal
 

@@ -1,8 +1,4 @@
-use Rattle.std.proofs.Common.{rules, ◌≡◌, ◌<◌, ◌∙◌, length, map}
-use Rattle.std.proofs.lemmas.List.{get_or_default}
-use Rattle.uz_schedule.specs.Instances.{cell_span}
-use Rattle.uz_range.specs.Answers.{ends}
-use Rattle.uz_transfer.specs.Values.{span_at}
+use Rattle.uz_rules.proofs.Common.{rules, ◌≡◌, ◌<◌, ◌∙◌, length, map, get_or_default, cell_span, ends, span_at}
 use Rattle.uz_rules.proofs.CountKeys.{span_fits}
 use Rattle.uz_rules.proofs.count_keys.cell_fits.Goals as goal
 

@@ -1,4 +1,4 @@
-use Rattle.std.proofs.Common.{rules, ◌≡◌, length}
+use Rattle.uz_rules.proofs.Common.{rules, ◌≡◌, length}
 use Rattle.uz_rules.proofs.CountKeys.{registers_tell, slots_tell, cells_tell}
 use Rattle.uz_rules.proofs.count_keys.may_lie.Goals as goal
 

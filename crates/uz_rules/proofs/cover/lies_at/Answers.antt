@@ -1,7 +1,4 @@
-use Rattle.std.proofs.Common.{◌∙◌, ap}
-use Rattle.std.specs.Prelude.{slice_index_or, slice_set}
-use Rattle.uz_schedule.specs.declared.facts.Val.TheVariants.{Range}
-use Rattle.uz_schedule.specs.declared.states.Instance.{Instance}
+use Rattle.uz_rules.proofs.Common.{◌∙◌, ap, slice_index_or, slice_set, Range, Instance}
 use Rattle.uz_rules.proofs.CoverLaws.{stands_again}
 use Rattle.uz_rules.proofs.cover.lies_at.Goals as goal
 

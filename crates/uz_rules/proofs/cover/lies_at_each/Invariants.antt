@@ -1,6 +1,5 @@
-use Rattle.std.proofs.Common.{◌≡◌, ◌-◌, suc}
+use Rattle.uz_rules.proofs.Common.{◌≡◌, ◌-◌, suc, lies_in_any}
 use Rattle.uz_rules.specs.Cover.{all_from, at_value}
-use Rattle.uz_rules.specs.Successors.{lies_in_any}
 use Rattle.uz_rules.proofs.cover.lies_at_each.Given as goal
 
 -- what is left answers for all, and the result is what it was

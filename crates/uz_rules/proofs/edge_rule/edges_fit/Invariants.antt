@@ -1,5 +1,4 @@
-use Rattle.std.proofs.Common.{◌≡◌, drop}
-use Rattle.uz_rules.specs.EdgeRule.{position_of, edges_fit}
+use Rattle.uz_rules.proofs.Common.{◌≡◌, drop, position_of, edges_fit}
 use Rattle.uz_rules.proofs.edge_rule.edges_fit.Given as goal
 
 -- what is left answers for all

@@ -1,6 +1,4 @@
-use Rattle.std.proofs.Common.{◌≡◌}
-use Rattle.uz_schedule.specs.Schedule.{event_at}
-use Rattle.uz_rules.specs.EdgeRule.{position_of, is_quiet}
+use Rattle.uz_rules.proofs.Common.{◌≡◌, event_at, position_of, is_quiet}
 use Rattle.uz_rules.proofs.edge_rule.is_quiet.Given as goal
 
 -- the test so far

@@ -1,9 +1,5 @@
-use Rattle.std.proofs.Common.{rules, ◌≡◌, ◌<◌, ◌∙◌, ap, length, map, false, sym}
-use Rattle.std.proofs.lemmas.List.{get_or_default}
-use Rattle.uz_schedule.specs.Instances.{cell_span}
-use Rattle.uz_range.specs.Answers.{ends}
-use Rattle.uz_transfer.specs.Values.{span_at}
-use Rattle.uz_transfer.specs.Refusals.{range_inside}
+use Rattle.uz_rules.proofs.Common.{rules, ◌≡◌, ◌<◌, ◌∙◌, ap, length, map, false, sym, get_or_default, cell_span, ends, span_at}
+use Rattle.uz_rules.proofs.Common.{range_inside}
 use Rattle.uz_rules.proofs.Below.{below_failed}
 use Rattle.uz_rules.proofs.fact_inclusion.spans_in_facts.Goals as goal
 

@@ -1,8 +1,4 @@
-use Rattle.std.proofs.Common.{◌≡◌, map, true}
-use Rattle.uz_schedule.specs.Instances.{cell_span}
-use Rattle.uz_transfer.specs.Values.{span_at}
-use Rattle.uz_transfer.specs.Refusals.{range_inside}
-use Rattle.uz_rules.specs.Inside.{all_below}
+use Rattle.uz_rules.proofs.Common.{◌≡◌, map, true, cell_span, span_at, range_inside, all_below}
 use Rattle.uz_rules.proofs.fact_inclusion.spans_in_facts.Given as goal
 
 -- those so far lie in what their facts say

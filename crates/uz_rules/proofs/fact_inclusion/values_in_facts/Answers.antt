@@ -1,10 +1,5 @@
-use Rattle.std.proofs.Common.{rules, ◌≡◌, ◌<◌, ◌∙◌, ap, length, map, false, sym}
-use Rattle.std.proofs.lemmas.List.{get_or_default}
-use Rattle.uz_schedule.specs.declared.facts.Val.TheVariants.{Range}
-use Rattle.uz_schedule.specs.Instances.{val_of}
-use Rattle.uz_range.specs.Answers.{ends}
-use Rattle.uz_transfer.specs.Values.{value_at}
-use Rattle.uz_rules.specs.Inside.{value_inside}
+use Rattle.uz_rules.proofs.Common.{rules, ◌≡◌, ◌<◌, ◌∙◌, ap, length, map, false, sym, get_or_default, Range, val_of, ends, value_at}
+use Rattle.uz_rules.proofs.Common.{value_inside}
 use Rattle.uz_rules.proofs.Below.{below_failed}
 use Rattle.uz_rules.proofs.fact_inclusion.values_in_facts.Goals as goal
 

@@ -1,7 +1,4 @@
-use Rattle.std.proofs.Common.{◌≡◌, map, true}
-use Rattle.uz_schedule.specs.Instances.{val_of}
-use Rattle.uz_transfer.specs.Values.{value_at}
-use Rattle.uz_rules.specs.Inside.{all_below, value_inside}
+use Rattle.uz_rules.proofs.Common.{◌≡◌, map, true, val_of, value_at, all_below, value_inside}
 use Rattle.uz_rules.proofs.fact_inclusion.values_in_facts.Given as goal
 
 -- those so far lie in what their facts say

@@ -1,6 +1,4 @@
-use Rattle.std.proofs.Common.{◌≡◌}
-use Rattle.uz_transfer.specs.Values.{flag_at}
-use Rattle.uz_rules.specs.Inside.{all_below, flag_inside}
+use Rattle.uz_rules.proofs.Common.{◌≡◌, flag_at, all_below, flag_inside}
 use Rattle.uz_rules.proofs.inclusion.flags_inside.Given as goal
 
 -- the test so far

@@ -1,7 +1,4 @@
-use Rattle.std.proofs.Common.{◌≡◌}
-use Rattle.uz_transfer.specs.Values.{flag_at}
-use Rattle.uz_transfer.specs.Memory.{is_old}
-use Rattle.uz_rules.specs.Inside.{all_below}
+use Rattle.uz_rules.proofs.Common.{◌≡◌, flag_at, is_old, all_below}
 use Rattle.uz_rules.proofs.inclusion.flags_restored.Given as goal
 
 -- the test so far

@@ -1,7 +1,4 @@
-use Rattle.std.proofs.Common.{◌≡◌}
-use Rattle.uz_transfer.specs.Values.{pair_at}
-use Rattle.uz_transfer.specs.Refusals.{range_inside}
-use Rattle.uz_rules.specs.Inside.{all_below}
+use Rattle.uz_rules.proofs.Common.{◌≡◌, pair_at, range_inside, all_below}
 use Rattle.uz_rules.proofs.inclusion.pairs_inside.Given as goal
 
 -- the test so far

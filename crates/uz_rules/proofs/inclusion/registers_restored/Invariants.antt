@@ -1,6 +1,4 @@
-use Rattle.std.proofs.Common.{◌≡◌}
-use Rattle.uz_transfer.specs.Values.{value_at}
-use Rattle.uz_rules.specs.Inside.{all_below, is_old_register}
+use Rattle.uz_rules.proofs.Common.{◌≡◌, value_at, all_below, is_old_register}
 use Rattle.uz_rules.proofs.inclusion.registers_restored.Given as goal
 
 -- the test so far

@@ -1,9 +1,4 @@
-use Rattle.std.proofs.Common.{◌≡◌, drop}
-use Rattle.uz_schedule.specs.Lines.{order_of}
-use Rattle.uz_transfer.specs.Narrowed.{narrowed}
-use Rattle.uz_transfer.specs.Step.{at_exit}
-use Rattle.uz_rules.specs.EdgeRule.{each_exit}
-use Rattle.uz_rules.specs.Local.{passes}
+use Rattle.uz_rules.proofs.Common.{◌≡◌, drop, order_of, narrowed, at_exit, each_exit, passes}
 use Rattle.uz_rules.proofs.local_rule.lie_in_successors.Given as goal
 
 -- what is left answers for all

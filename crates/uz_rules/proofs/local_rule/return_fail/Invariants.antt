@@ -1,5 +1,4 @@
-use Rattle.std.proofs.Common.{◌≡◌, drop}
-use Rattle.uz_rules.specs.Local.{rest_in, return_fail}
+use Rattle.uz_rules.proofs.Common.{◌≡◌, drop, rest_in, return_fail}
 use Rattle.uz_rules.proofs.local_rule.return_fail.Given as goal
 
 -- what is left answers for all

@@ -1,4 +1,4 @@
-use Rattle.std.proofs.Common.{◌∙◌}
+use Rattle.uz_rules.proofs.Common.{◌∙◌}
 use Rattle.uz_rules.proofs.MovingLaws.{moved_is}
 use Rattle.uz_rules.proofs.moving.move_to.Goals as goal
 

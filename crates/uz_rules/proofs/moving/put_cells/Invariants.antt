@@ -1,5 +1,4 @@
-use Rattle.std.proofs.Common.{◌≡◌, drop, length}
-use Rattle.uz_rules.specs.Moving.{with_cells}
+use Rattle.uz_rules.proofs.Common.{◌≡◌, drop, length, with_cells}
 use Rattle.uz_rules.proofs.moving.put_cells.Given as goal
 
 -- what is left puts the rest

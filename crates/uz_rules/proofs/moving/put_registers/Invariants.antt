@@ -1,5 +1,4 @@
-use Rattle.std.proofs.Common.{◌≡◌, drop}
-use Rattle.uz_rules.specs.Moving.{with_registers}
+use Rattle.uz_rules.proofs.Common.{◌≡◌, drop, with_registers}
 use Rattle.uz_rules.proofs.moving.put_registers.Given as goal
 
 -- what is left puts the rest

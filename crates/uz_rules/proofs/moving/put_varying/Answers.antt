@@ -1,4 +1,4 @@
-use Rattle.std.proofs.Common.{◌<◌, All, sym, subst}
+use Rattle.uz_rules.proofs.Common.{◌<◌, All, sym, subst}
 use Rattle.uz_rules.proofs.MovingLaws.{registers_below, all_put}
 use Rattle.uz_rules.proofs.moving.put_varying.Goals as goal
 

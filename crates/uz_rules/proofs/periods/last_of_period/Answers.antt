@@ -1,5 +1,4 @@
-use Rattle.std.proofs.Common.{◌≤◌, ◌^◌, arith, pow_mono}
-use Rattle.std.proofs.lemmas.Bool.Decides.{nat_tests}
+use Rattle.uz_rules.proofs.Common.{◌≤◌, ◌^◌, arith, pow_mono, nat_tests}
 use Rattle.uz_rules.proofs.periods.last_of_period.Goals as goal
 
 -- a period of so many counts has all of a box

@@ -1,4 +1,4 @@
-use Rattle.std.proofs.Common.{rules, ◌<◌, length}
+use Rattle.uz_rules.proofs.Common.{rules, ◌<◌, length}
 use Rattle.uz_rules.proofs.PeriodLaws.{longest_more}
 use Rattle.uz_rules.proofs.periods.longest_of.Goals as goal
 

@@ -1,6 +1,4 @@
-use Rattle.std.proofs.Common.{◌^◌}
-use Rattle.std.specs.List.{AllWithin}
-use Rattle.uz_rules.specs.Periods.{ByteRepeats}
+use Rattle.uz_rules.proofs.Common.{◌^◌, AllWithin, ByteRepeats}
 use Rattle.uz_rules.proofs.periods.longest_of.Given as goal
 
 -- those so far say the same after the longest period

@@ -1,6 +1,4 @@
-use Rattle.std.proofs.Common.{rules, ◌≡◌, length, slice_index_or, arith}
-use Rattle.std.proofs.lemmas.List.{get_or_default}
-use Rattle.uz_schedule.specs.declared.facts.PairFact.TheVariants.{Any as AnyPair}
+use Rattle.uz_rules.proofs.Common.{rules, ◌≡◌, length, slice_index_or, arith, get_or_default, AnyPair}
 use Rattle.uz_rules.proofs.PeriodLaws.{pairs_longer}
 use Rattle.uz_rules.proofs.periods.longest_of_pairs.Goals as goal
 

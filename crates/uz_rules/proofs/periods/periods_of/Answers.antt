@@ -1,5 +1,4 @@
-use Rattle.std.proofs.Common.{◌^◌, All, arith, subst}
-use Rattle.uz_rules.specs.Periods.{ByteRepeats}
+use Rattle.uz_rules.proofs.Common.{◌^◌, All, arith, subst, ByteRepeats}
 use Rattle.uz_rules.proofs.PeriodLaws.{all_longer, pairs_all_longer}
 use Rattle.uz_rules.proofs.periods.periods_of.Goals as goal
 

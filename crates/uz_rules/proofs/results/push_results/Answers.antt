@@ -1,12 +1,5 @@
-use Rattle.std.proofs.Common.{◌≡◌, ◌+◌, [], ◌∷◌, ◌++◌, length, take, sym, ◌∙◌, ap, arith}
-use Rattle.std.specs.Prelude.{slice_index_or}
-use Rattle.std.proofs.lemmas.List.{take_more}
-use Rattle.uz_schedule.specs.Lines.{order_of}
-use Rattle.uz_schedule.specs.declared.states.Instance.{Instance}
-use Rattle.uz_transfer.specs.declared.step.Exit.{Exit}
-use Rattle.uz_transfer.specs.Narrowed.{narrowed}
-use Rattle.uz_transfer.specs.Step.{at_exit, successor}
-use Rattle.uz_rules.specs.After.{if_there, results_of}
+use Rattle.uz_rules.proofs.Common.{◌≡◌, ◌+◌, [], ◌∷◌, ◌++◌, length, take, sym, ◌∙◌, ap, arith, slice_index_or, take_more, order_of}
+use Rattle.uz_rules.proofs.Common.{Instance, Exit, narrowed, at_exit, successor, if_there, results_of}
 use Rattle.uz_rules.proofs.AfterLaws.{few_results, results_more, take_few}
 use Rattle.uz_rules.proofs.results.push_results.Goals as goal
 

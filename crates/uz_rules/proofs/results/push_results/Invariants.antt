@@ -1,6 +1,4 @@
-use Rattle.std.proofs.Common.{◌≡◌, take}
-use Rattle.uz_schedule.specs.Lines.{order_of}
-use Rattle.uz_rules.specs.After.{results_of}
+use Rattle.uz_rules.proofs.Common.{◌≡◌, take, order_of, results_of}
 use Rattle.uz_rules.proofs.results.push_results.Given as goal
 
 -- the results so far

@@ -1,6 +1,4 @@
-use Rattle.std.proofs.Common.{◌≡◌, ◌-◌, suc}
-use Rattle.uz_rules.specs.Successors.{any_from}
-use Rattle.uz_rules.specs.FactInclusion.{facts_inside}
+use Rattle.uz_rules.proofs.Common.{◌≡◌, ◌-◌, suc, any_from, facts_inside}
 use Rattle.uz_rules.proofs.successors.lies_at_tried.Given as goal
 
 -- what is left answers for all

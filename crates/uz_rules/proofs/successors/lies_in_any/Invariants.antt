@@ -1,5 +1,4 @@
-use Rattle.std.proofs.Common.{◌≡◌, drop}
-use Rattle.uz_rules.specs.Successors.{lies_in_any}
+use Rattle.uz_rules.proofs.Common.{◌≡◌, drop, lies_in_any}
 use Rattle.uz_rules.proofs.successors.lies_in_any.Given as goal
 
 -- what is left answers for all

@@ -1,5 +1,4 @@
-use Rattle.std.proofs.Common.{◌≡◌, ◌∙◌, sym, refl, true}
-use Rattle.uz_rules.specs.FactInclusion.{is_beside}
+use Rattle.uz_rules.proofs.Common.{◌≡◌, ◌∙◌, sym, refl, true, is_beside}
 use Rattle.uz_rules.proofs.AtCounts.{box_is, box_elsewhere}
 use Rattle.uz_rules.proofs.successors.lies_in_box.Goals as goal
 

@@ -1,6 +1,5 @@
-use Rattle.std.proofs.Common.{rules, ◌<◌, ◌≤◌, ◌+◌, ◌++◌, [], ◌∷◌, length, drop, sym, ◌∙◌, ap}
-use Rattle.std.proofs.lemmas.List.{append_assoc, append-nil}
-use Rattle.uz_rules.specs.Moving.{varying_from}
+use Rattle.uz_rules.proofs.Common.{rules, ◌<◌, ◌≤◌, ◌+◌, ◌++◌, [], ◌∷◌, length, drop, sym, ◌∙◌, ap, append-nil, varying_from}
+use Rattle.std.proofs.lemmas.List.{append_assoc}
 use Rattle.uz_rules.proofs.MovingLaws.{varying_one, varying_end}
 use Rattle.uz_rules.proofs.varying.varying_places.Goals as goal
 

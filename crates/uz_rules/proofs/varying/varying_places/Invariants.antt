@@ -1,5 +1,4 @@
-use Rattle.std.proofs.Common.{◌≡◌, ◌≤◌, ◌++◌, drop, length}
-use Rattle.uz_rules.specs.Moving.{varying_from}
+use Rattle.uz_rules.proofs.Common.{◌≡◌, ◌≤◌, ◌++◌, drop, length, varying_from}
 use Rattle.uz_rules.proofs.varying.varying_places.Given as goal
 
 -- those so far, and what is left
