@@ -1,5 +1,6 @@
 -- The abstract results from the step.
-use Rattle.uz_rules.proofs.Common.{◌≡◌, ℕ, zero, suc, ◌≤◌, take, List, [], ◌∷◌, ◌++◌, Option, Some, None, length, map, refl, sym, ◌∙◌, ap}
+use Rattle.std.proofs.lemmas.List.{length-take}
+use Rattle.uz_rules.proofs.Common.{◌≡◌, ℕ, suc, ◌≤◌, take, List, [], ◌∷◌, ◌++◌, Option, Some, None, length, map, refl, sym, ◌∙◌, ap}
 use Rattle.uz_rules.proofs.Common.{append_assoc, arith, Ok, Err, append-nil, nat_cmp, FinMap, Head, Instance, Lines, Fail, Exit, Step}
 use Rattle.uz_rules.proofs.Common.{narrowed, IsStep, successor, if_there, results_of, next_of, IsAfter}
 use Rattle.uz_rules.specs.declared.next.Next.{Next}
@@ -42,7 +43,4 @@ results_plain lines inst step none (x ∷ exits) =
     ∙ ap (λ l. successor lines inst step x ∷ l) (results_plain lines inst step none exits)
 
 pub take_few : {A : Type 0} (i : ℕ) (xs : List A) → length (take i xs) ≤ i
-take_few zero [] = omega arith
-take_few zero (x ∷ xs) = omega arith
-take_few (suc i) [] = omega arith
-take_few (suc i) (x ∷ xs) = let h = take_few i xs in omega (arith, h)
+take_few i xs = omega (arith, length-take i xs)

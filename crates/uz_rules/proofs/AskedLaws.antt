@@ -5,9 +5,10 @@ use Rattle.uz_rules.proofs.Common.{Next, Taken, SkipOne, SkipTwo, word_of, Effec
 use Rattle.uz_rules.proofs.Common.{register, bit_equals, following_pc, outcome_of, changed_core, IsCore, effect_of, EffectFits, PadHistory}
 use Rattle.uz_rules.proofs.Common.{Timer, State, Head, Kind, Main, EventKind, Lines, Instance, zero_keeps, step_of_row, step_unless, Fail}
 use Rattle.uz_rules.proofs.Common.{Exit, Step, is_three, knows_comparisons, is_main, left_of, narrowed, test_of, with_left, with_one, Left}
-use Rattle.uz_rules.proofs.Common.{span_of, value_at, ComparedHolds, CoreMeets, Meets, TimerMeets, LeftMeets, MeetsLeft, and_right}
+use Rattle.uz_rules.proofs.Common.{span_of, value_at, ComparedHolds, CoreMeets, Meets, TimerMeets, LeftMeets, and_right, byte_span}
+use Rattle.uz_rules.specs.OneStep.{MeetsLeft}
 use Rattle.uz_rules.proofs.CoreKeeps.{within_span}
-use Rattle.uz_transfer.specs.Narrowed.{byte_span, as_asked, asked, is_taken, left_at, narrowed_by, with_some_left}
+use Rattle.uz_transfer.specs.Narrowed.{as_asked, asked, is_taken, left_at, narrowed_by, with_some_left}
 use Rattle.avr_table.specs.Length.{length_of}
 use Rattle.uz_schedule.specs.declared.kinds.RuleVersion.TheVariants.{Two}
 use Rattle.uz_range.proofs.ResultsKeep.{bit_keeps}

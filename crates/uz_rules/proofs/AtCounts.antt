@@ -110,9 +110,7 @@ any_tells test k (suc n) e = by_case (test k) refl e (λ f. any_tells test (suc 
     by_case true h e more = record { number = k; first = omega arith; last = omega arith; holds = h }
     by_case false h e more =
         let m = more e in
-        let first = m.first in
-        let last = m.last in
-        record { number = m.number; first = omega (arith, first); last = omega (arith, last); holds = m.holds }
+        record { number = m.number; first = omega (arith, m.first); last = omega (arith, m.last); holds = m.holds }
 
 pub any_holds : (test : ℕ → Bool) (k n c : ℕ) → k ≤ c → c < k + n → test c ≡ true → any_from test k n ≡ true
 unfolding any_from
@@ -133,10 +131,8 @@ found_in : (s : Schedule) (p : Point) (inst : Instance) → any_from (λ c. lies
     → (c : ℕ) × IsAtCount p inst.clock c × ((stands_beside s p inst && facts_inside inst p c) ≡ true)
 found_in s p inst e =
     let any = any_tells (λ c. lies_at (instance_in s p inst.line c) inst) p.c0 (suc p.c1 - p.c0) e in
-    let first = any.first in
-    let last = any.last in
     let clock = clock_told s p any.number inst (instance_in s p inst.line any.number) refl any.holds in
-    let at : IsAtCount p inst.clock any.number = record { first = first; last = omega (arith, first, last); clock = clock } in
+    let at : IsAtCount p inst.clock any.number = record { first = any.first; last = omega (arith, any.first, any.last); clock = clock } in
     (any.number, at, sym (at_count s p inst any.number at) ∙ any.holds)
 
 any_same : (f g : ℕ → Bool) (k n : ℕ) → ((c : ℕ) → f c ≡ g c) → any_from f k n ≡ any_from g k n
@@ -165,12 +161,10 @@ by_counts : (cert : Cert) (id : ℕ) (p : Point) (inst : Instance) (b : Bool) �
     → lies_in_box cert id (Some p) inst ≡ b
 by_counts cert id p inst true is beside found told =
     let some = found refl in
-    let first = some.at.first in
-    let last = some.at.last in
     let facts = some.facts in
     let here : (stands_beside cert.schedule p inst && facts_inside inst p some.count) ≡ true = rw (beside, facts) refl in
     box_by_point cert id p inst is ∙ any_holds (λ c. lies_at (instance_in cert.schedule p inst.line c) inst) p.c0 (suc p.c1 - p.c0)
-    some.count first (omega (arith, first, last)) (at_count cert.schedule p inst some.count some.at ∙ here)
+    some.count some.at.first (omega (arith, some.at.first, some.at.last)) (at_count cert.schedule p inst some.count some.at ∙ here)
 by_counts cert id p inst false is beside found told = box_by_point cert id p inst is ∙ false_from_ne_true _ (λ t.
     let got = found_in cert.schedule p inst t in
     let both = and_parts (stands_beside cert.schedule p inst) _ got.2 in
@@ -212,11 +206,14 @@ pub flat_found : (p : Point) (inst : Instance) → unsigned_abs p.slope ≡ 0 �
     → any_from (facts_inside inst p) p.c0 (suc p.c1 - p.c0) ≡ true → LiesAtSome p inst
 flat_found p inst flat same e =
     let any = any_tells (facts_inside inst p) p.c0 (suc p.c1 - p.c0) e in
-    let first = any.first in
-    let last = any.last in
     record {
       count = any.number;
-      at = record { first = first; last = omega (arith, first, last); clock = no_slope p.slope flat any.number p.clock ∙ ap pos same };
+      at = record {
+        first = any.first;
+        last = omega (arith, any.first, any.last);
+        clock = no_slope p.slope flat any.number p.clock
+            ∙ ap pos same;
+      };
       facts = any.holds;
     }
 
@@ -229,9 +226,7 @@ flat_clock p inst flat some =
 
 pub flat_told : (p : Point) (inst : Instance) → LiesAtSome p inst → any_from (facts_inside inst p) p.c0 (suc p.c1 - p.c0) ≡ true
 flat_told p inst some =
-    let first = some.at.first in
-    let last = some.at.last in
-    any_holds (facts_inside inst p) p.c0 (suc p.c1 - p.c0) some.count first (omega (arith, first, last)) some.facts
+    any_holds (facts_inside inst p) p.c0 (suc p.c1 - p.c0) some.count some.at.first (omega (arith, some.at.first, some.at.last)) some.facts
 
 -- a clock is reached by steps of a slope at one count at most
 pub steps_told : (from to : ℕ) (z : ℤ) (c : ℕ) → 0 < unsigned_abs z → pos from +ℤ z *ℤ pos c ≡ pos to

@@ -78,9 +78,9 @@ module _ {P : Type 0} (w : PadWiring P) (head : Head) (image : FinMap nat_cmp �
 
       stored : Stored w head inst now o d (effective_address to core) (register core r) core (space_after c s) emitted
       stored =
-          store_stored w head inst o d (effective_address to core) (register core r) (address_range to inst) (value_at inst.regs r)
-          core (space_after c s) emitted b.fits b.size b.is_core b.meets b.enabled b.memory (low_room head inst o d core s b)
-          (register_byte core r b.is_core) (b.meets.regs r fits.1) (address_holds to inst o core b.is_core fits.0 b.meets)
+          store_stored w head inst o d (effective_address to core) (register core r) core (space_after c s) b.fits b.size b.is_core b.meets
+          b.enabled b.memory (low_room head inst o d core s b) (register_byte core r b.is_core) (address_range to inst)
+          (value_at inst.regs r) emitted (b.meets.regs r fits.1) (address_holds to inst o core b.is_core fits.0 b.meets)
           (may_be_stored head inst (sync_level s) to r emitted fail em)
 
   push_parts : (r : ℕ) → r < 32 → fail_of head (PushByte r) inst ≡ None
@@ -171,8 +171,8 @@ module _ {P : Type 0} (w : PadWiring P) (head : Head) (image : FinMap nat_cmp �
   parts_of (Load to from) emitted fits new f ticks back fail em =
       silent em (quiet w head inst _ o d core _ s (space_after c (content_after_loads (space_loads w) late s
       (effective_address from core ∷ [])))
-      (load_meets w to from head image following sampled words late d inst o core s fits b.fits b.limits.flags b.limits.old b.is_core new
-      b.meets b.enabled b.memory ticks (below_address from core fits.1 b.is_core))
+      (load_meets w head inst o core d late sampled s b.fits b.limits.flags b.limits.old b.is_core b.meets b.enabled b.memory ticks to from
+      image following words fits new (below_address from core fits.1 b.is_core))
       (ap (λ x. bit_is_set x 7) (pointer_core from (effective_address from core) core).1 ∙ b.enabled) b.memory
       (pointer_rest from inst inst).0
       (pointer_rest from inst inst).1 (pointer_rest from inst inst).2 (sym (pointer_core from (effective_address from core) core).0)

@@ -19,7 +19,8 @@ pub use Rattle.std.proofs.lemmas.List.{get_or_append_left, get_or_default, get_o
 pub use Rattle.std.proofs.lemmas.List.{length-take-le, map-append, set-get_or, set-set, take_more}
 pub use Rattle.std.proofs.lemmas.List.Elements.{All-cons, All-nil, Contains-append_left, Contains-append_right, filter_map-append}
 pub use Rattle.std.proofs.lemmas.List.Elements.{recursion_from_All}
-pub use Rattle.std.proofs.lemmas.Nat.Bits.{bit_at_above, bit_at_lowest, same_from_bits_below}
+pub use Rattle.std.proofs.lemmas.Nat.Bits.{bit_at-lt, bit_at-pow_other, bit_at-suc, bit_at_above, bit_at_cat_high, bit_at_cat_low}
+pub use Rattle.std.proofs.lemmas.Nat.Bits.{bit_at_lowest, bit_at_xor, same_from_bits_below}
 pub use Rattle.std.proofs.lemmas.Option.{option_and_then_some, same_Some, slice_get_cases}
 pub use Rattle.std.specs.FinMap.{FinMap}
 pub use Rattle.std.specs.Int.{abs_diff, bit_at}
@@ -84,8 +85,7 @@ pub use Rattle.uz_rules.specs.MemoryMeets.{CellsHold, depth_below, HeaderHolds, 
 pub use Rattle.uz_rules.specs.Moving.{IsOfPoint, IsVarying, with_cells, with_registers, with_stack}
 unfoldable pub use Rattle.uz_rules.specs.Moving.{varying_from}
 pub use Rattle.uz_rules.specs.NarrowingMeets.{LeftMeets, NarrowingMeets}
-pub use Rattle.uz_rules.specs.OneStep.{AloneContained, Contained, HandlerContained, InstructionBegins, IsNoEntry, MainContained, MainTimer}
-pub use Rattle.uz_rules.specs.OneStep.{MeetsLeft, OneStep}
+pub use Rattle.uz_rules.specs.OneStep.{HandlerContained, IsNoEntry}
 unfoldable pub use Rattle.uz_rules.specs.Periods.{ByteRepeats}
 pub use Rattle.uz_rules.specs.Successors.{lies_at, lies_in_any, lies_in_box, LiesIn, LiesInPoint, same_program_place}
 unfoldable pub use Rattle.uz_rules.specs.Successors.{any_from}
@@ -124,7 +124,7 @@ pub use Rattle.uz_transfer.specs.Kinds.{cell_place, cell_range, depth_limit, is_
 pub use Rattle.uz_transfer.specs.Memory.{address_range, all_flags, cell_value, depth_of, flags_from, flags_number, flash_value, is_old}
 pub use Rattle.uz_transfer.specs.Memory.{loaded_value, slot_value, sreg_value, stored_in, value_at_address, with_cell, with_pointer_range}
 pub use Rattle.uz_transfer.specs.Memory.{with_slots, with_stored, without_slots}
-pub use Rattle.uz_transfer.specs.Narrowed.{left_of, narrowed, test_of, with_left, with_one}
+pub use Rattle.uz_transfer.specs.Narrowed.{byte_span, left_of, narrowed, test_of, with_left, with_one}
 pub use Rattle.uz_transfer.specs.Refusals.{cell_admits, fail_of, flag_fails, flag_is, io_fails, is_known_slot, is_setup_register, is_some}
 pub use Rattle.uz_transfer.specs.Refusals.{mask_fails, may_store, range_inside, refuse_if, stored_bit, target_fails, top_fails}
 pub use Rattle.uz_transfer.specs.Step.{all_exits, at_exit, clears_flag, draft_of, ends_line, exits_of, following_of, IsReadAt, IsStep}

@@ -13,8 +13,9 @@ use Rattle.uz_rules.proofs.Common.{is_main, is_handler, HeadFits, Untouched, dep
 use Rattle.uz_rules.proofs.Common.{transfer, bit_of_bool, compared_after, is_three, told_after, test_of, byte_event, bit_event, level_event}
 use Rattle.uz_rules.proofs.Common.{emission, emission_at, level_after, span_of, value_at, with_flag_list, fail_of, event_of, Lines}
 use Rattle.uz_rules.proofs.Common.{clears_flag, following_of, sampled_of, draft_of, all_exits, step_of_row, successor, IsReadAt, TimerMeets}
-use Rattle.uz_rules.proofs.Common.{TimerCounts, LevelMeets, Meets, InstanceFits, IsNoEntry, main_emits, Exit, Step, MainTimer, OneStep}
-use Rattle.uz_rules.proofs.Common.{InstructionBegins, Contained, AloneContained, MainContained, or_parts, shown_at, shown, listed}
+use Rattle.uz_rules.proofs.Common.{TimerCounts, LevelMeets, Meets, InstanceFits, IsNoEntry, main_emits, Exit, Step, shown_at, shown, listed}
+use Rattle.uz_rules.proofs.StoreClasses.{silent_byte}
+use Rattle.uz_rules.specs.OneStep.{MainTimer, OneStep, InstructionBegins, Contained, AloneContained, MainContained}
 use Rattle.uz_rules.proofs.Classes.{pointer_rest, facts_of, Before, memory_same, unless_none}
 use Rattle.uz_rules.proofs.AskedLaws.{step_tells, TellsAway, row_tells, exit_meets, asks_none, two_asks_none}
 use Rattle.uz_transfer.specs.InTime.{clock_holds}
@@ -329,10 +330,9 @@ any_contained head lines image inst o d step s enters h part =
         let k = part r.row r.event r.reads r.fine r.emits stays r.time time.1 in
         effect_step head lines inst o d s (effect_of r.row) (words_of r.row) (clocks_of r.row) r.event (effect_fits r.row) b h.meets
         k after.core.registers stays r.fine time (row_tells r.row) after.core in
-        let flash : s.image ≡ image = h.flash in
         let plan : plan_of head (lines.length inst.line) s.image (effect_of r.row) (words_of r.row) (clocks_of r.row) inst r.event ≡ step =
         ap (λ (m : FinMap nat_cmp ℕ). plan_of head (lines.length inst.line) m (effect_of r.row) (words_of r.row) (clocks_of r.row) inst
-        r.event) flash ∙ sym r.is in
+        r.event) h.flash ∙ sym r.is in
         subst (λ x. OneStep head lines inst o d x s edges new) plan
         (subst (λ es. OneStep head lines inst o d (plan_of head (lines.length inst.line) s.image (effect_of r.row) (words_of r.row)
         (clocks_of r.row) inst r.event) s es new) (sym seen)
@@ -372,16 +372,6 @@ alone_contained head lines image inst o d step s kind h =
     })
 
 -- An instruction of main
-
--- what shows nothing shows nothing at any level
-silent_byte : (level at : ℕ) (v : Val) → (nat_eq at 0x23 || (nat_eq at 0x25 || (nat_eq at 0x26 || (nat_eq at 0x28 || nat_eq at 0xB3))))
-    ≡ false → byte_event level v at ≡ Some None
-silent_byte level at v e =
-    let a = or_parts (nat_eq at 0x23) _ e in
-    let b = or_parts (nat_eq at 0x25) _ a.1 in
-    let c = or_parts (nat_eq at 0x26) _ b.1 in
-    let d = or_parts (nat_eq at 0x28) _ c.1 in
-    rw (a.0, b.0, c.0, d.0, d.1) refl
 
 silent_store : (level : ℕ) (a : Ends) (v : Val)
     → (is_single a && (nat_eq a.lo 0x23 || (nat_eq a.lo 0x25 || (nat_eq a.lo 0x26 || (nat_eq a.lo 0x28 || nat_eq a.lo 0xB3))))) ≡ false

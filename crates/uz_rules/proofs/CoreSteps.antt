@@ -10,8 +10,7 @@ use Rattle.uz_rules.proofs.Common.{high_answer, bst_answer, pair_add_answer, low
 use Rattle.uz_rules.proofs.Common.{pair_sub_covers, exact_pair, byte_hull, flag_at, pair_range, with_value, with_pair_value, with_flag_list}
 use Rattle.uz_rules.proofs.Common.{merged_flags, known_byte, ValueHolds, FlagHolds, CoreMeets, address_range, with_pointer_range, all_flags}
 use Rattle.uz_rules.proofs.Common.{is_old, flags_number, sreg_value, flags_from, is_main, or_kept, bit_of_merged, and_parts}
-use Rattle.uz_rules.proofs.Common.{pair_sub_answer, each_flag}
-use Rattle.std.proofs.lemmas.Nat.Bits.{bit_at-suc, bit_at-lt, bit_at_cat_low, bit_at_cat_high}
+use Rattle.uz_rules.proofs.Common.{pair_sub_answer, each_flag, bit_at-suc, bit_at-lt, bit_at_cat_low, bit_at_cat_high}
 use Rattle.uz_rules.proofs.CoreKeeps.{hull_holds, set_same, set_other, whole, pair_word, pair_holds, val_meets, range_meets, core_with}
 
 -- registers, pairs and flags of two instances, and of two cores, may be the same

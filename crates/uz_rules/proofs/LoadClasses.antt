@@ -60,78 +60,64 @@ ram_one w core late s at low high = rw (ram_not_core at low) (ram_read w (space_
 
 -- What is known of a byte that is loaded. The timer's count is known in a handler alone
 
-val_at_holds : {P : Type 0} (w : PadWiring P) (head : Head) (inst : Instance) (o core : Core) (d late sampled at : ℕ) (s : Space P)
-    → HeadFits head → length inst.flags ≡ 7 → (all_flags is_old inst.flags ≡ true → is_main inst.kind ≡ false) → IsCore core
-    → CoreMeets inst o core → bit_is_set core.sreg 7 ≡ is_main inst.kind
-    → MemoryMeets head inst o d core.sp s.bytes → (is_handler inst.kind ≡ true → byte_at w (space_after late s) 0x84 ≡ sampled % 256)
-    → one_loaded w core late s at < 256
-    → ValueHolds (value_at_address head sampled inst at) o (one_loaded w core late s at)
-val_at_holds {P} w head inst o core d late sampled at s fits len old c h enabled m ticks byte =
-    by_sreg (nat_eq at 0x5F) (nat_eq at 0x84) (is_handler inst.kind) (cell_place head inst.kind at) (cell_range head at) refl refl refl refl
-    refl
-  where
-    by_sreg : (a b t : Bool) (place : Option ℕ) (range : Option Ends) → nat_eq at 0x5F ≡ a → nat_eq at 0x84 ≡ b → is_handler inst.kind ≡ t
-        → cell_place head inst.kind at ≡ place → cell_range head at ≡ range
-        → ValueHolds (if a then sreg_value inst else if b && t then known_byte (sampled % 256) else cell_value inst.cells.items place range)
-        o (one_loaded w core late s at)
-    by_sreg true b t place range p q r x y =
-        let i : at ≡ 0x5F = grind (arith, nat_tests) in
-        subst (λ a. ValueHolds (sreg_value inst) o (one_loaded w core late s a)) (sym i) (sreg_holds inst o core len old c h enabled)
-    by_sreg false true true place range p q r x y =
-        let i : at ≡ 0x84 = grind (arith, nat_tests) in
-        let v : one_loaded w core late s 0x84 ≡ sampled % 256 = ticks r in
-        subst (λ a. ValueHolds (known_byte (sampled % 256)) o (one_loaded w core late s a)) (sym i)
-        (record { above = omega (arith, v); below = omega (arith, v) })
-    by_sreg false true false (Some j) range p q r x y =
-        let f : HasRange head.cells.items at = tracked_has_range head inst.kind at j x in
-        let ram = fits.cells_ram at f.range f.is in
-        rw (ram_one w core late s at ram.0 ram.1) (m.cells at j x)
-    by_sreg false true false None (Some e) p q r x y = let ram = fits.cells_ram at e y in rw (ram_one w core late s at ram.0 ram.1)
-        (m.ranges at e y)
-    by_sreg false true false None None p q r x y = whole _ byte
-    by_sreg false false t (Some j) range p q r x y =
-        let f : HasRange head.cells.items at = tracked_has_range head inst.kind at j x in
-        let ram = fits.cells_ram at f.range f.is in
-        rw (ram_one w core late s at ram.0 ram.1) (m.cells at j x)
-    by_sreg false false t None (Some e) p q r x y = let ram = fits.cells_ram at e y in rw (ram_one w core late s at ram.0 ram.1)
-        (m.ranges at e y)
-    by_sreg false false t None None p q r x y = whole _ byte
+module _ {P : Type 0} (w : PadWiring P) (head : Head) (inst : Instance) (o core : Core) (d late sampled : ℕ) (s : Space P)
+    (fits : HeadFits head) (len : length inst.flags ≡ 7) (old : all_flags is_old inst.flags ≡ true → is_main inst.kind ≡ false)
+    (c : IsCore core) (h : CoreMeets inst o core) (enabled : bit_is_set core.sreg 7 ≡ is_main inst.kind)
+    (m : MemoryMeets head inst o d core.sp s.bytes)
+    (ticks : is_handler inst.kind ≡ true → byte_at w (space_after late s) 0x84 ≡ sampled % 256) where
+  val_at_holds : (at : ℕ) → one_loaded w core late s at < 256
+      → ValueHolds (value_at_address head sampled inst at) o (one_loaded w core late s at)
+  val_at_holds at byte = by_sreg (nat_eq at 0x5F) (nat_eq at 0x84) (is_handler inst.kind) refl refl refl
+    where
+      cell : (place : Option ℕ) (range : Option Ends) → cell_place head inst.kind at ≡ place → cell_range head at ≡ range
+          → ValueHolds (cell_value inst.cells.items place range) o (one_loaded w core late s at)
+      cell (Some j) range x y =
+          let f : HasRange head.cells.items at = tracked_has_range head inst.kind at j x in
+          let ram = fits.cells_ram at f.range f.is in
+          rw (ram_one w core late s at ram.0 ram.1) (m.cells at j x)
+      cell None (Some e) x y = let ram = fits.cells_ram at e y in rw (ram_one w core late s at ram.0 ram.1) (m.ranges at e y)
+      cell None None x y = whole _ byte
 
-loaded_holds : {P : Type 0} (w : PadWiring P) (head : Head) (inst : Instance) (o core : Core) (d late sampled at : ℕ) (a : Ends)
-    (s : Space P) → HeadFits head → length inst.flags ≡ 7 → (all_flags is_old inst.flags ≡ true → is_main inst.kind ≡ false) → IsCore core
-    → CoreMeets inst o core → bit_is_set core.sreg 7 ≡ is_main inst.kind
-    → MemoryMeets head inst o d core.sp s.bytes → (is_handler inst.kind ≡ true → byte_at w (space_after late s) 0x84 ≡ sampled % 256)
-    → one_loaded w core late s at < 256 → IsWithin at a
-    → ValueHolds (loaded_value head sampled inst a) o (one_loaded w core late s at)
-loaded_holds w head inst o core d late sampled at a s fits len old c h enabled m ticks byte within = by_case (is_single a) refl
-  where
-    by_case : (t : Bool) → is_single a ≡ t → ValueHolds (if t then value_at_address head sampled inst a.lo else Range (ends 0 255)) o
-        (one_loaded w core late s at)
-    by_case true e = rw (only a at e within) (val_at_holds w head inst o core d late sampled at s fits len old c h enabled m ticks byte)
-    by_case false e = whole _ byte
+      by_sreg : (a b t : Bool) → nat_eq at 0x5F ≡ a → nat_eq at 0x84 ≡ b → is_handler inst.kind ≡ t
+          → ValueHolds (if a then sreg_value inst else if b && t then known_byte (sampled % 256) else
+          cell_value inst.cells.items (cell_place head inst.kind at) (cell_range head at)) o (one_loaded w core late s at)
+      by_sreg true b t p q r =
+          let i : at ≡ 0x5F = grind (arith, nat_tests) in
+          subst (λ a. ValueHolds (sreg_value inst) o (one_loaded w core late s a)) (sym i) (sreg_holds inst o core len old c h enabled)
+      by_sreg false true true p q r =
+          let i : at ≡ 0x84 = grind (arith, nat_tests) in
+          let v : one_loaded w core late s 0x84 ≡ sampled % 256 = ticks r in
+          subst (λ a. ValueHolds (known_byte (sampled % 256)) o (one_loaded w core late s a)) (sym i)
+          (record { above = omega (arith, v); below = omega (arith, v) })
+      by_sreg false true false p q r = cell (cell_place head inst.kind at) (cell_range head at) refl refl
+      by_sreg false false t p q r = cell (cell_place head inst.kind at) (cell_range head at) refl refl
 
-pub load_meets : {P : Type 0} (w : PadWiring P) (to : ℕ) (from : AddressMode) (head : Head) (image : FinMap nat_cmp ℕ)
-    (following sampled words late d : ℕ) (inst : Instance) (o core : Core) (s : Space P) → EffectFits (Load to from) → HeadFits head
-    → length inst.flags ≡ 7 → (all_flags is_old inst.flags ≡ true → is_main inst.kind ≡ false) → IsCore core
-    → AllByRecursion IsByte (changed_core (Load to from) image words
-    (loaded_bytes (space_loads w) core late s (effective_address from core ∷ [])) core).registers → CoreMeets inst o core
-    → bit_is_set core.sreg 7 ≡ is_main inst.kind → MemoryMeets head inst o d core.sp s.bytes
-    → (is_handler inst.kind ≡ true → byte_at w (space_after late s) 0x84 ≡ sampled % 256) → effective_address from core < 65536
-    → CoreMeets (transfer head image following sampled (Load to from) inst) o
-    (changed_core (Load to from) image words (loaded_bytes (space_loads w) core late s (effective_address from core ∷ [])) core)
-load_meets w to from head image following sampled words late d inst o core s fits hf len old c new h enabled m ticks low =
-    let p = core_with_pointer from (effective_address from core) core low c in
-    let is = is_one_loaded w core late s (effective_address from core) in
-    let byte = set_byte (with_pointer_after from (effective_address from core) core).registers to
-    (slice_index (loaded_bytes (space_loads w) core late s (effective_address from core ∷ [])) 0) (omega (arith, p.count, fits.0))
-    new in
-    let pointer = pointer_meets from inst inst o core core c c fits.1 h h in
-    let v = loaded_holds w head inst o core d late sampled (effective_address from core) (address_range from inst) s hf len old c h enabled
-    m ticks (subst (λ n. n < 256) is byte) (address_holds from inst o core c fits.1 h) in
-    val_meets (with_pointer_range from inst inst) o (with_pointer_after from (effective_address from core) core) to
-    (slice_index (loaded_bytes (space_loads w) core late s (effective_address from core ∷ [])) 0)
-    (loaded_value head sampled inst (address_range from inst)) p fits.0 byte
-    (subst (λ n. ValueHolds (loaded_value head sampled inst (address_range from inst)) o n) (sym is) v) pointer
+  loaded_holds : (at : ℕ) (a : Ends) → one_loaded w core late s at < 256 → IsWithin at a
+      → ValueHolds (loaded_value head sampled inst a) o (one_loaded w core late s at)
+  loaded_holds at a byte within = by_case (is_single a) refl
+    where
+      by_case : (t : Bool) → is_single a ≡ t → ValueHolds (if t then value_at_address head sampled inst a.lo else Range (ends 0 255)) o
+          (one_loaded w core late s at)
+      by_case true e = rw (only a at e within) (val_at_holds at byte)
+      by_case false e = whole _ byte
+
+  pub load_meets : (to : ℕ) (from : AddressMode) (image : FinMap nat_cmp ℕ) (following words : ℕ) → EffectFits (Load to from)
+      → AllByRecursion IsByte (changed_core (Load to from) image words
+      (loaded_bytes (space_loads w) core late s (effective_address from core ∷ [])) core).registers → effective_address from core < 65536
+      → CoreMeets (transfer head image following sampled (Load to from) inst) o
+      (changed_core (Load to from) image words (loaded_bytes (space_loads w) core late s (effective_address from core ∷ [])) core)
+  load_meets to from image following words fit new low =
+      let p = core_with_pointer from (effective_address from core) core low c in
+      let is = is_one_loaded w core late s (effective_address from core) in
+      let byte = set_byte (with_pointer_after from (effective_address from core) core).registers to
+      (slice_index (loaded_bytes (space_loads w) core late s (effective_address from core ∷ [])) 0) (omega (arith, p.count, fit.0)) new in
+      let pointer = pointer_meets from inst inst o core core c c fit.1 h h in
+      let v = loaded_holds (effective_address from core) (address_range from inst) (subst (λ n. n < 256) is byte)
+      (address_holds from inst o core c fit.1 h) in
+      val_meets (with_pointer_range from inst inst) o (with_pointer_after from (effective_address from core) core) to
+      (slice_index (loaded_bytes (space_loads w) core late s (effective_address from core ∷ [])) 0)
+      (loaded_value head sampled inst (address_range from inst)) p fit.0 byte
+      (subst (λ n. ValueHolds (loaded_value head sampled inst (address_range from inst)) o n) (sym is) v) pointer
 
 -- LPM
 

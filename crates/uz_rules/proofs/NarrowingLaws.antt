@@ -4,10 +4,10 @@ use Rattle.uz_rules.proofs.Common.{◌∙◌, subst, inl, inr, arith, slice_set,
 use Rattle.uz_rules.proofs.Common.{chained_result, Core, register, pair, IsCore, Ends, Against, Register, Constant, Nothing, Pair, Result}
 use Rattle.uz_rules.proofs.Common.{PairResult, Value, Range, Instance, ends, IsWithin, high_answer, low_answer, common_keeps, high_covers}
 use Rattle.uz_rules.proofs.Common.{low_covers, left_of, with_left, with_one, Left, span_of, value_at, pair_range, FlagsAre, against_value}
-use Rattle.uz_rules.proofs.Common.{AgainstFits, ValueHolds, CoreMeets, LeftMeets, second_pair, NarrowingMeets}
+use Rattle.uz_rules.proofs.Common.{AgainstFits, ValueHolds, CoreMeets, LeftMeets, second_pair, NarrowingMeets, byte_span}
 use Rattle.uz_rules.proofs.CoreKeeps.{within_span, or_same, whole, register_byte, pair_word, pair_holds, range_meets}
 use Rattle.uz_range.specs.Flags.{flag_after, byte_flag, pair_flag, low_difference}
-use Rattle.uz_transfer.specs.Narrowed.{byte_span, against_span, with_both, with_first_pair, with_one_pair, with_pair, with_span}
+use Rattle.uz_transfer.specs.Narrowed.{against_span, with_both, with_first_pair, with_one_pair, with_pair, with_span}
 use Rattle.uz_schedule.specs.declared.facts.Compared.TheVariants.{Byte}
 use Rattle.uz_range.specs.Narrowing.{KeepsBoth, Keeps, both, common, result_narrowed}
 use Rattle.uz_range.proofs.FlagsOfBytes.{difference_keeps}

@@ -161,20 +161,18 @@ any_first : (test : ℕ → Bool) (p k n : ℕ) → 0 < p → ((c : ℕ) → tes
     → any_from test k p ≡ true
 any_first test p k n some again e =
     let any = any_tells test k n e in
-    let first = any.first in
     let rest = (any.number - k) % p in
     let times = (any.number - k) / p in
     let below : rest < p = mod_below (any.number - k) p some in
     let split : times * p + rest ≡ any.number - k = div-add-mod' (any.number - k) p in
-    let number : (k + rest) + times * p ≡ any.number = omega (arith, split, first) in
+    let number : (k + rest) + times * p ≡ any.number = omega (arith, split, any.first) in
     any_holds test k p (k + rest) (omega arith) (omega (arith, below))
     (sym (many test p again times (k + rest)) ∙ (ap test number ∙ any.holds))
 
 any_wider : (test : ℕ → Bool) (k p n : ℕ) → p ≤ n → any_from test k p ≡ true → any_from test k n ≡ true
 any_wider test k p n le e =
     let any = any_tells test k p e in
-    let last = any.last in
-    any_holds test k n any.number any.first (omega (arith, last, le)) any.holds
+    any_holds test k n any.number any.first (omega (arith, any.last, le)) any.holds
 
 same_truth : (a b : Bool) → (a ≡ true → b ≡ true) → (b ≡ true → a ≡ true) → a ≡ b
 same_truth true true f g = refl

@@ -2,7 +2,7 @@
 use Rattle.uz_rules.proofs.Common.{◌≡◌, ◌≢◌, ℕ, ◌+◌, ◌%◌, ◌^◌, ◌<◌, ◌≤◌, Bool, true, false, if◌then◌else◌, nat_eq, nat_lt, length, refl}
 use Rattle.uz_rules.proofs.Common.{sym, ◌∙◌, ap, arith, slice_index, bit_xor, nat_tests, bit_at_lowest, BitCall as Bit, with_bit}
 use Rattle.uz_rules.proofs.Common.{is_timer_address, PadWiring, Space, is_pin, byte_at, after_byte, after_store, takes_one_bit, sync_level}
-use Rattle.std.proofs.lemmas.Nat.Bits.{bit_at_xor}
+use Rattle.uz_rules.proofs.Common.{bit_at_xor}
 use Rattle.uz_rules.proofs.CoreKeeps.{set_same, set_other}
 use Rattle.uz_rules.proofs.MemoryKeeps.{Wrote}
 

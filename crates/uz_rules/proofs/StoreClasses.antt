@@ -1,15 +1,15 @@
 -- The classes of effect that store: ST and OUT, PUSH, the pushes of a call, SBI and CBI.
-use Rattle.uz_rules.proofs.Common.{◌≡◌, ◌≢◌, ◌⊎◌, inl, inr, ℕ, suc, ◌+◌, ◌-◌, ◌/◌, ◌%◌, ◌<◌, ◌≤◌, Bool, true, false, if◌then◌else◌}
-use Rattle.uz_rules.proofs.Common.{nat_eq, nat_lt, nat_le, Option, Some, None, List, [], ◌∷◌, ◌++◌, fold, filter, length, refl, sym, ◌∙◌}
-use Rattle.uz_rules.proofs.Common.{ap, subst, append_assoc, arith, ◌&&◌, ◌||◌, AllByRecursion, eqb_tells, nat_tests, append-nil}
-use Rattle.uz_rules.proofs.Common.{bit_at_above, bit_at, HeldStore, Byte, BitCall, EdgeKind, bit_is_set, Core, is_core_address, with_store}
-use Rattle.uz_rules.proofs.Common.{leaves_core, IsCore, PadWiring, Space, after_byte, after_store, sync_level, edge_kinds, after_stores}
-use Rattle.uz_rules.proofs.Common.{all_edge_kinds, Ends, Kind, Main, Bit, Zero, One, Val, Range, Old, OldFlags, Head, EventKind, Instance}
-use Rattle.uz_rules.proofs.Common.{ends, is_single, IsWithin, Admits, only, bst_answer, bst_covers, span_of, with_flag_list, known_byte}
-use Rattle.uz_rules.proofs.Common.{ValueHolds, CoreMeets, cell_place, cell_range, misses, depth_limit, is_main, depth_below, MemoryMeets}
-use Rattle.uz_rules.proofs.Common.{HeadFits, flags_from, with_cell, with_stored, stored_in, with_slots, pc_values, byte_event, bit_event}
-use Rattle.uz_rules.proofs.Common.{level_after, is_setup_register, stored_bit, flag_is, cell_admits, may_store, mask_fails, event_of}
-use Rattle.uz_rules.proofs.Common.{IsNoEntry, and_parts, or_cases, not-false, not-true, filter_map-append}
+use Rattle.uz_rules.proofs.Common.{or_parts, ◌≡◌, ◌≢◌, ◌⊎◌, inl, inr, ℕ, suc, ◌+◌, ◌-◌, ◌/◌, ◌%◌, ◌<◌, ◌≤◌, Bool, true, false}
+use Rattle.uz_rules.proofs.Common.{if◌then◌else◌, nat_eq, nat_lt, nat_le, Option, Some, None, List, [], ◌∷◌, ◌++◌, fold, filter, length}
+use Rattle.uz_rules.proofs.Common.{refl, sym, ◌∙◌, ap, subst, append_assoc, arith, ◌&&◌, ◌||◌, AllByRecursion, eqb_tells, nat_tests}
+use Rattle.uz_rules.proofs.Common.{append-nil, bit_at_above, bit_at, HeldStore, Byte, BitCall, EdgeKind, bit_is_set, Core, is_core_address}
+use Rattle.uz_rules.proofs.Common.{with_store, leaves_core, IsCore, PadWiring, Space, after_byte, after_store, sync_level, edge_kinds}
+use Rattle.uz_rules.proofs.Common.{after_stores, all_edge_kinds, Ends, Kind, Main, Bit, Zero, One, Val, Range, Old, OldFlags, Head}
+use Rattle.uz_rules.proofs.Common.{EventKind, Instance, ends, is_single, IsWithin, Admits, only, bst_answer, bst_covers, span_of}
+use Rattle.uz_rules.proofs.Common.{with_flag_list, known_byte, ValueHolds, CoreMeets, cell_place, cell_range, misses, depth_limit, is_main}
+use Rattle.uz_rules.proofs.Common.{depth_below, MemoryMeets, HeadFits, flags_from, with_cell, with_stored, stored_in, with_slots, pc_values}
+use Rattle.uz_rules.proofs.Common.{byte_event, bit_event, level_after, is_setup_register, stored_bit, flag_is, cell_admits, may_store}
+use Rattle.uz_rules.proofs.Common.{mask_fails, event_of, IsNoEntry, and_parts, or_cases, not-false, not-true, filter_map-append}
 use Rattle.uz_rules.proofs.CoreKeeps.{in_span}
 use Rattle.uz_rules.proofs.MemoryKeeps.{tracked_has_range, missed, stored_meets, kept_meets, push_meets}
 use Rattle.uz_rules.proofs.SpaceStores.{byte_wrote, bit_kept}
@@ -40,14 +40,18 @@ then_shows a b x y z emitted p q = record {
   calm = calm_append a b p.calm q.calm;
 }
 
+-- what shows nothing shows nothing at any level
+pub silent_byte : (level at : ℕ) (v : Val) → (nat_eq at 0x23 || (nat_eq at 0x25 || (nat_eq at 0x26 || (nat_eq at 0x28 || nat_eq at 0xB3))))
+    ≡ false → byte_event level v at ≡ Some None
+silent_byte level at v e =
+    let a = or_parts (nat_eq at 0x23) _ e in
+    let b = or_parts (nat_eq at 0x25) _ a.1 in
+    let c = or_parts (nat_eq at 0x26) _ b.1 in
+    let d = or_parts (nat_eq at 0x28) _ c.1 in
+    rw (a.0, b.0, c.0, d.0, d.1) refl
+
 ram_event : (level at : ℕ) (v : Val) → 256 ≤ at → byte_event level v at ≡ Some None
-ram_event level at v h =
-    let a : nat_eq at 0x23 ≡ false = grind (arith, nat_tests) in
-    let b : nat_eq at 0x25 ≡ false = grind (arith, nat_tests) in
-    let c : nat_eq at 0x26 ≡ false = grind (arith, nat_tests) in
-    let d : nat_eq at 0x28 ≡ false = grind (arith, nat_tests) in
-    let e : nat_eq at 0xB3 ≡ false = grind (arith, nat_tests) in
-    rw (a, b, c, d, e) refl
+ram_event level at v h = silent_byte level at v (grind (arith, nat_tests))
 
 ram_shows : {P : Type 0} (w : PadWiring P) (s : Space P) (at v : ℕ) → length s.bytes ≡ 4352 → 256 ≤ at → v < 256
     → Shows (edge_kinds (Byte at v) s (after_byte w at v s)) (sync_level s) (sync_level (after_byte w at v s)) None
@@ -163,43 +167,6 @@ stored_top OldFlags o x false h q =
     let y : bit_at x 7 ≡ 0 = ap (λ n. bit_at n 7) h ∙ z in
     rw y refl
 
--- to SREG
-sreg_stored : {P : Type 0} (w : PadWiring P) (head : Head) (inst : Instance) (o : Core) (d v : ℕ) (val : Val) (core : Core) (s : Space P)
-    → HeadFits head → IsCore core → CoreMeets inst o core → MemoryMeets head inst o d core.sp s.bytes
-    → v < 256 → ValueHolds val o v → mask_fails inst.kind 0x5F val ≡ false → Stored w head inst (with_flag_list (flags_from val) inst) o d
-    0x5F v core s None
-sreg_stored w head inst o d v val core s fits c h m b hv mask = record {
-  meets = record { regs = h.regs; pairs = h.pairs; flags = stored_flags val o v hv };
-  enabled = stored_top val o v (is_main inst.kind) hv (not-false _ mask);
-  is_core = record { count = c.count; registers = c.registers; sreg = b; sp = c.sp; pc = c.pc };
-  sp = refl;
-  leads = record { memory = record { slots = m.slots; cells = m.cells; ranges = m.ranges; depth = m.depth }; shows = none_shows w s };
-}
-
--- to the data space, off the stack
-space_stored : {P : Type 0} (w : PadWiring P) (head : Head) (inst : Instance) (o : Core) (d at v : ℕ) (e : Ends) (core : Core) (s : Space P)
-    (emitted : Option EventKind) (place : Option ℕ) → HeadFits head → length s.bytes ≡ 4352 → IsCore core → CoreMeets inst o core
-    → bit_is_set core.sreg 7 ≡ is_main inst.kind → MemoryMeets head inst o d core.sp s.bytes → head.lo ≤ suc core.sp → is_core_address
-    at ≡ false → v < 256
-    → (at < head.lo) ⊎ (head.hi < at) → ((r : Ends) → cell_range head at ≡ Some r → IsWithin v r) → IsWithin v e → cell_place head inst.kind
-    at ≡ place
-    → Shows (edge_kinds (Byte at v) s (after_byte w at v s)) (sync_level s) (sync_level (after_byte w at v s)) emitted → Stored w head inst
-    (with_cell place e inst) o d at v core s emitted
-space_stored {P} w head inst o d at v e core s emitted place fits size c h enabled m low outside b off takes within is shows =
-    let same : fold with_store core (Byte at v ∷ []) ≡ core = rw outside refl in
-    let calls : filter leaves_core (Byte at v ∷ []) ≡ (Byte at v ∷ []) = rw outside refl in
-    record {
-      meets = rw same (cell_core place e inst o core h);
-      enabled = rw same enabled;
-      is_core = rw same c;
-      sp = ap (λ k. k.sp) same;
-      leads = rw calls (record {
-        memory = stored_meets head inst o d core.sp at v e s.bytes (after_byte w at v s).bytes fits m low (byte_wrote w s at v size) b off
-            takes within place is;
-        shows = one_shows _ _ _ emitted shows;
-      });
-    }
-
 pub not_core : (at : ℕ) → 0x20 ≤ at → SetsNothingElse at → nat_eq at 0x5F ≡ false → is_core_address at ≡ false
 not_core at low io sreg =
     elim (eqb_tells at 0x5D) [
@@ -258,99 +225,130 @@ free_by head a e =
       none = off.1;
     }
 
-pub store_stored : {P : Type 0} (w : PadWiring P) (head : Head) (inst : Instance) (o : Core) (d at v : ℕ) (a : Ends) (val : Val)
-    (core : Core) (s : Space P) (emitted : Option EventKind) → HeadFits head → length s.bytes ≡ 4352 → IsCore core → CoreMeets inst o core
-    → bit_is_set core.sreg 7 ≡ is_main inst.kind → MemoryMeets head inst o d core.sp s.bytes → head.lo ≤ suc core.sp → v < 256
-    → ValueHolds val o v → IsWithin at a → MayStore head inst (sync_level s) a val emitted
-    → Stored w head inst (stored_in head a val inst) o d at v core s emitted
-store_stored {P} w head inst o d at v a val core s emitted fits size c h enabled m low b hv within may = by_single (is_single a) refl
-    may.mask may.io may.may may.emits
-  where
-    span : IsWithin v (span_of val)
-    span = in_span val o v b hv
+-- A store of a byte at an address
+module _ {P : Type 0} (w : PadWiring P) (head : Head) (inst : Instance) (o : Core) (d at v : ℕ) (core : Core) (s : Space P)
+    (fits : HeadFits head) (size : length s.bytes ≡ 4352) (c : IsCore core) (h : CoreMeets inst o core)
+    (enabled : bit_is_set core.sreg 7 ≡ is_main inst.kind) (m : MemoryMeets head inst o d core.sp s.bytes) (low : head.lo ≤ suc core.sp)
+    (b : v < 256) where
+  -- to SREG
+  sreg_stored : (val : Val) → ValueHolds val o v → mask_fails inst.kind 0x5F val ≡ false
+      → Stored w head inst (with_flag_list (flags_from val) inst) o d 0x5F v core s None
+  sreg_stored val hv mask = record {
+    meets = record { regs = h.regs; pairs = h.pairs; flags = stored_flags val o v hv };
+    enabled = stored_top val o v (is_main inst.kind) hv (not-false _ mask);
+    is_core = record { count = c.count; registers = c.registers; sreg = b; sp = c.sp; pc = c.pc };
+    sp = refl;
+    leads = record { memory = record { slots = m.slots; cells = m.cells; ranges = m.ranges; depth = m.depth }; shows = none_shows w s };
+  }
 
-    shows : byte_event (sync_level s) val at ≡ Some emitted → Shows (edge_kinds (Byte at v) s (after_byte w at v s)) (sync_level s)
-        (sync_level (after_byte w at v s)) emitted
-    shows e = byte_shows w s at v (sync_level s) val emitted size refl span e
+  -- to the data space, off the stack
+  space_stored : (e : Ends) (emitted : Option EventKind) (place : Option ℕ) → is_core_address at ≡ false
+      → (at < head.lo) ⊎ (head.hi < at) → ((r : Ends) → cell_range head at ≡ Some r → IsWithin v r) → IsWithin v e
+      → cell_place head inst.kind at ≡ place
+      → Shows (edge_kinds (Byte at v) s (after_byte w at v s)) (sync_level s) (sync_level (after_byte w at v s)) emitted
+      → Stored w head inst (with_cell place e inst) o d at v core s emitted
+  space_stored e emitted place outside off takes within is shows =
+      let same : fold with_store core (Byte at v ∷ []) ≡ core = rw outside refl in
+      let calls : filter leaves_core (Byte at v ∷ []) ≡ (Byte at v ∷ []) = rw outside refl in
+      record {
+        meets = rw same (cell_core place e inst o core h);
+        enabled = rw same enabled;
+        is_core = rw same c;
+        sp = ap (λ k. k.sp) same;
+        leads = rw calls (record {
+          memory = stored_meets head inst o d core.sp at v e s.bytes (after_byte w at v s).bytes fits m low (byte_wrote w s at v size) b
+              off takes within place is;
+          shows = one_shows _ _ _ emitted shows;
+        });
+      }
 
-    free : FreeRam head a → byte_event (sync_level s) val at ≡ Some emitted → (place : Option ℕ) → cell_place head inst.kind at ≡ place
-        → Stored w head inst (with_cell place (span_of val) inst) o d at v core s emitted
-    free f e place is =
-        space_stored w head inst o d at v (span_of val) core s emitted place fits size c h enabled m low
-        (ram_not_core at (omega (arith, f.low, within.above))) b
-        (elim f.off [ inl t ↦ inl (omega (arith, t, within.below)) | inr t ↦ inr (omega (arith, t, within.above)) ])
-        (λ r p. elim (missed head.cells.items a r at f.none p) [
-          | inl t ↦ absurd (omega (arith, t, within.above))
-          | inr t ↦ absurd
-              (omega (arith, t, within.below))
-        ])
-        span is (shows e)
+  pub store_stored : (a : Ends) (val : Val) (emitted : Option EventKind) → ValueHolds val o v → IsWithin at a
+      → MayStore head inst (sync_level s) a val emitted → Stored w head inst (stored_in head a val inst) o d at v core s emitted
+  store_stored a val emitted hv within may = by_single (is_single a) refl may.mask may.io may.may may.emits
+    where
+      span : IsWithin v (span_of val)
+      span = in_span val o v b hv
 
-    untracked : FreeRam head a → (place : Option ℕ) → cell_place head inst.kind at ≡ place → place ≡ None
-    untracked f None is = refl
-    untracked f (Some j) is =
-        let r = tracked_has_range head inst.kind at j is in
-        elim (missed head.cells.items a r.range at f.none r.is) [
-          | inl t ↦ absurd (omega (arith, t, within.above))
-          | inr t ↦ absurd
-              (omega (arith, t, within.below))
-        ]
+      shows : byte_event (sync_level s) val at ≡ Some emitted → Shows (edge_kinds (Byte at v) s (after_byte w at v s)) (sync_level s)
+          (sync_level (after_byte w at v s)) emitted
+      shows e = byte_shows w s at v (sync_level s) val emitted size refl span e
 
-    -- a single address other than SREG's
-    at_one : is_single a ≡ true → a.lo ≡ at → nat_eq at 0x5F ≡ false → SetsNothingElse at → may_store head inst.kind a val ≡ true
-        → byte_event (sync_level s) val at ≡ Some emitted
-        → Stored w head inst (with_cell (cell_place head inst.kind at) (span_of val) inst) o d at v core s emitted
-    at_one one i sreg io may e =
-        elim (or_cases (is_single a && (nat_le 0x20 a.lo && nat_le a.lo 0xFF)) _ may) [
-          | inl t ↦
-              let both = and_parts (nat_le 0x20 a.lo) (nat_le a.lo 0xFF) (and_parts (is_single a) _ t).1 in
-              let first = both.0 in
-              let second = both.1 in
-              let above : 0x20 ≤ at = grind (arith, nat_tests) in
-              let below : at ≤ 0xFF = grind (arith, nat_tests) in
-              space_stored w head inst o d at v (span_of val) core s emitted (cell_place head inst.kind at) fits size c h enabled m low
-              (not_core at above io sreg) b (inl (omega (arith, below, fits.low)))
-              (λ r p. absurd (omega (arith, below, (fits.cells_ram at r p).0))) span refl (shows e)
-          | inr t ↦
-              elim (or_cases (is_single a && cell_admits (cell_place head inst.kind a.lo) (cell_range head a.lo) (span_of val)) _ t) [
-                | inl u ↦
-                    let k = subst (λ n. cell_admits (cell_place head inst.kind n) (cell_range head n) (span_of val) ≡ true) i
-                    (and_parts (is_single a) _ u).1 in
-                    let taken = cell_taken head inst.kind at (span_of val) k in
-                    space_stored w head inst o d at v (span_of val) core s emitted (cell_place head inst.kind at) fits size c h enabled m
-                    low (ram_not_core at (fits.cells_ram at taken.range taken.is).0) b (fits.cells_off at taken.range taken.is)
-                    (λ r p. let same : taken.range ≡ r = (let q = taken.is in cc) in subst (λ x. IsWithin v x) same
-                    (record { above = omega (arith, taken.low, span.above); below = omega (arith, taken.high, span.below) })) span refl
-                    (shows e)
-                | inr u ↦ free (free_by head a u) e (cell_place head inst.kind at) refl
-              ]
-        ]
+      free : FreeRam head a → byte_event (sync_level s) val at ≡ Some emitted → (place : Option ℕ) → cell_place head inst.kind at ≡ place
+          → Stored w head inst (with_cell place (span_of val) inst) o d at v core s emitted
+      free f e place is =
+          space_stored (span_of val) emitted place (ram_not_core at (omega (arith, f.low, within.above)))
+          (elim f.off [ inl t ↦ inl (omega (arith, t, within.below)) | inr t ↦ inr (omega (arith, t, within.above)) ])
+          (λ r p. elim (missed head.cells.items a r at f.none p) [
+            | inl t ↦ absurd (omega (arith, t, within.above))
+            | inr t ↦ absurd
+                (omega (arith, t, within.below))
+          ]) span is (shows e)
 
-    at_sreg : (t : Bool) → is_single a ≡ true → a.lo ≡ at → nat_eq at 0x5F ≡ t → mask_fails inst.kind at val ≡ false → SetsNothingElse at
-        → may_store head inst.kind a val ≡ true → byte_event (sync_level s) val at ≡ Some emitted
-        → Stored w head inst (if t then with_flag_list (flags_from val) inst else with_cell (cell_place head inst.kind at) (span_of val)
-        inst) o d at v core s emitted
-    at_sreg true one i is mask io may e =
-        let j : at ≡ 0x5F = grind (arith, nat_tests) in
-        let n : emitted ≡ None = none_is emitted (subst (λ x. byte_event (sync_level s) val x ≡ Some emitted) j e) in
-        rw n (subst (λ x. Stored w head inst (with_flag_list (flags_from val) inst) o d x v core s None) (sym j)
-        (sreg_stored w head inst o d v val core s fits c h m b hv (subst (λ x. mask_fails inst.kind x val ≡ false) j mask)))
-    at_sreg false one i is mask io may e = at_one one i is io may e
+      untracked : FreeRam head a → (place : Option ℕ) → cell_place head inst.kind at ≡ place → place ≡ None
+      untracked f None is = refl
+      untracked f (Some j) is =
+          let r = tracked_has_range head inst.kind at j is in
+          elim (missed head.cells.items a r.range at f.none r.is) [
+            | inl t ↦ absurd (omega (arith, t, within.above))
+            | inr t ↦ absurd
+                (omega (arith, t, within.below))
+          ]
 
-    by_single : (t : Bool) → is_single a ≡ t → (is_single a ≡ true → mask_fails inst.kind a.lo val ≡ false)
-        → (is_single a ≡ true → SetsNothingElse a.lo) → may_store head inst.kind a val ≡ true
-        → (if is_single a then byte_event (sync_level s) val a.lo else Some None) ≡ Some emitted → Stored w head inst
-        (if t then with_stored head a.lo val inst else inst) o d at v core s emitted
-    by_single true one mask io may e =
-        let i = only a at one within in
-        let e' : byte_event (sync_level s) val at ≡ Some emitted = subst (λ n. byte_event (sync_level s) val n ≡ Some emitted) i
-        (rw one at e) in
-        subst (λ n. Stored w head inst (with_stored head n val inst) o d at v core s emitted) (sym i)
-        (at_sreg (nat_eq at 0x5F) one i refl (subst (λ n. mask_fails inst.kind n val ≡ false) i (mask one))
-        (subst SetsNothingElse i (io one)) may e')
-    by_single false many mask io may e =
-        let f = free_by head a (rw many at may) in
-        let n : emitted ≡ None = none_is emitted (rw many at e) in
-        let event = ram_event (sync_level s) at val (omega (arith, f.low, within.above)) in
-        let u = untracked f (cell_place head inst.kind at) refl in
-        free f (event ∙ ap (λ x. Some x) (sym n)) None u
+      -- a single address other than SREG's
+      at_one : is_single a ≡ true → a.lo ≡ at → nat_eq at 0x5F ≡ false → SetsNothingElse at → may_store head inst.kind a val ≡ true
+          → byte_event (sync_level s) val at ≡ Some emitted
+          → Stored w head inst (with_cell (cell_place head inst.kind at) (span_of val) inst) o d at v core s emitted
+      at_one one i sreg io may e =
+          elim (or_cases (is_single a && (nat_le 0x20 a.lo && nat_le a.lo 0xFF)) _ may) [
+            | inl t ↦
+                let both = and_parts (nat_le 0x20 a.lo) (nat_le a.lo 0xFF) (and_parts (is_single a) _ t).1 in
+                let first = both.0 in
+                let second = both.1 in
+                let above : 0x20 ≤ at = grind (arith, nat_tests) in
+                let below : at ≤ 0xFF = grind (arith, nat_tests) in
+                space_stored (span_of val) emitted (cell_place head inst.kind at)
+                (not_core at above io sreg) (inl (omega (arith, below, fits.low)))
+                (λ r p. absurd (omega (arith, below, (fits.cells_ram at r p).0))) span refl (shows e)
+            | inr t ↦
+                elim (or_cases (is_single a && cell_admits (cell_place head inst.kind a.lo) (cell_range head a.lo) (span_of val)) _ t) [
+                  | inl u ↦
+                      let k = subst (λ n. cell_admits (cell_place head inst.kind n) (cell_range head n) (span_of val) ≡ true) i
+                      (and_parts (is_single a) _ u).1 in
+                      let taken = cell_taken head inst.kind at (span_of val) k in
+                      space_stored (span_of val) emitted (cell_place head inst.kind at)
+                      (ram_not_core at (fits.cells_ram at taken.range taken.is).0) (fits.cells_off at taken.range taken.is)
+                      (λ r p. let same : taken.range ≡ r = (let q = taken.is in cc) in subst (λ x. IsWithin v x) same
+                      (record { above = omega (arith, taken.low, span.above); below = omega (arith, taken.high, span.below) })) span refl
+                      (shows e)
+                  | inr u ↦ free (free_by head a u) e (cell_place head inst.kind at) refl
+                ]
+          ]
+
+      at_sreg : (t : Bool) → is_single a ≡ true → a.lo ≡ at → nat_eq at 0x5F ≡ t → mask_fails inst.kind at val ≡ false → SetsNothingElse at
+          → may_store head inst.kind a val ≡ true → byte_event (sync_level s) val at ≡ Some emitted
+          → Stored w head inst (if t then with_flag_list (flags_from val) inst else with_cell (cell_place head inst.kind at) (span_of val)
+          inst) o d at v core s emitted
+      at_sreg true one i is mask io may e =
+          let j : at ≡ 0x5F = grind (arith, nat_tests) in
+          let n : emitted ≡ None = none_is emitted (subst (λ x. byte_event (sync_level s) val x ≡ Some emitted) j e) in
+          rw n (subst (λ x. Stored w head inst (with_flag_list (flags_from val) inst) o d x v core s None) (sym j)
+          (sreg_stored val hv (subst (λ x. mask_fails inst.kind x val ≡ false) j mask)))
+      at_sreg false one i is mask io may e = at_one one i is io may e
+
+      by_single : (t : Bool) → is_single a ≡ t → (is_single a ≡ true → mask_fails inst.kind a.lo val ≡ false)
+          → (is_single a ≡ true → SetsNothingElse a.lo) → may_store head inst.kind a val ≡ true
+          → (if is_single a then byte_event (sync_level s) val a.lo else Some None) ≡ Some emitted → Stored w head inst
+          (if t then with_stored head a.lo val inst else inst) o d at v core s emitted
+      by_single true one mask io may e =
+          let i = only a at one within in
+          let e' : byte_event (sync_level s) val at ≡ Some emitted = subst (λ n. byte_event (sync_level s) val n ≡ Some emitted) i
+          (rw one at e) in
+          subst (λ n. Stored w head inst (with_stored head n val inst) o d at v core s emitted) (sym i)
+          (at_sreg (nat_eq at 0x5F) one i refl (subst (λ n. mask_fails inst.kind n val ≡ false) i (mask one))
+          (subst SetsNothingElse i (io one)) may e')
+      by_single false many mask io may e =
+          let f = free_by head a (rw many at may) in
+          let n : emitted ≡ None = none_is emitted (rw many at e) in
+          let event = ram_event (sync_level s) at val (omega (arith, f.low, within.above)) in
+          let u = untracked f (cell_place head inst.kind at) refl in
+          free f (event ∙ ap (λ x. Some x) (sym n)) None u

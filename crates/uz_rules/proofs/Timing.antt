@@ -1,15 +1,15 @@
 -- How the timer goes on with an instance's clock and pending match, and what loads and stores leave of it.
-use Rattle.uz_rules.proofs.Common.{push_room, call_room, ◌≡◌, ◌⊎◌, inl, inr, ℕ, suc, ◌+◌, ◌-◌, ◌*◌, ◌/◌, ◌%◌, ◌^◌, ◌<◌, ◌≤◌, Bool, true}
-use Rattle.uz_rules.proofs.Common.{false, not, if◌then◌else◌, nat_eq, nat_lt, nat_le, Some, None, List, [], ◌∷◌, filter, refl, sym, ◌∙◌, ap}
-use Rattle.uz_rules.proofs.Common.{subst, arith, ◌&&◌, ◌||◌, eqb_tells, nat_tests, bit_at, Effect, Store, PushByte, WriteIoBit, Jump, Byte}
-use Rattle.uz_rules.proofs.Common.{BitCall, bit_is_set, with_bit, Core, register, is_core_address, effective_address, following_pc}
-use Rattle.uz_rules.proofs.Common.{content_after_loads, stores_of, leaves_core, EffectFits, Timer, is_counting, count_after, matches_within}
-use Rattle.uz_rules.proofs.Common.{timer_after, is_timer_address, PadWiring, Space, is_pin, byte_at, after_byte, after_store, takes_one_bit}
-use Rattle.uz_rules.proofs.Common.{space_loads, after_stores, Ends, Kind, Bit, Zero, One, Val, Range, Head, Instance, is_single, is_known}
-use Rattle.uz_rules.proofs.Common.{IsWithin, Admits, bst_answer, only, bst_covers, value_at, ValueHolds, is_main, is_handler, address_range}
-use Rattle.uz_rules.proofs.Common.{is_setup_register, stored_bit, flag_is, flag_fails, may_store, fail_of, clears_flag, not-false}
+use Rattle.uz_rules.proofs.Common.{or_parts, push_room, call_room, ◌≡◌, ◌⊎◌, inl, inr, ℕ, suc, ◌+◌, ◌-◌, ◌*◌, ◌/◌, ◌%◌, ◌^◌, ◌<◌, ◌≤◌, Bool}
+use Rattle.uz_rules.proofs.Common.{true, false, not, if◌then◌else◌, nat_eq, nat_lt, nat_le, Some, None, List, [], ◌∷◌, filter, refl, sym}
+use Rattle.uz_rules.proofs.Common.{◌∙◌, ap, subst, arith, ◌&&◌, ◌||◌, eqb_tells, nat_tests, bit_at, Effect, Store, PushByte, WriteIoBit}
+use Rattle.uz_rules.proofs.Common.{Jump, Byte, BitCall, bit_is_set, with_bit, Core, register, is_core_address, effective_address}
+use Rattle.uz_rules.proofs.Common.{following_pc, content_after_loads, stores_of, leaves_core, EffectFits, Timer, is_counting, count_after}
+use Rattle.uz_rules.proofs.Common.{matches_within, timer_after, is_timer_address, PadWiring, Space, is_pin, byte_at, after_byte}
+use Rattle.uz_rules.proofs.Common.{after_store, takes_one_bit, space_loads, after_stores, Ends, Kind, Bit, Zero, One, Val, Range, Head}
+use Rattle.uz_rules.proofs.Common.{Instance, is_single, is_known, IsWithin, Admits, bst_answer, only, bst_covers, value_at, ValueHolds}
+use Rattle.uz_rules.proofs.Common.{is_main, is_handler, address_range, is_setup_register, stored_bit, flag_is, flag_fails, may_store}
+use Rattle.uz_rules.proofs.Common.{fail_of, clears_flag, not-false, bit_at-pow_other}
 use Rattle.uz_rules.proofs.Classes.{room_for, facts_of, Before, unless_none, single_fails, io_fine}
-use Rattle.std.proofs.lemmas.Nat.Bits.{bit_at-pow_other}
 use Rattle.std.proofs.Math.Nat.{mod-eq_of_lt, mod-eq-sub-mod, mod-lt}
 use Rattle.uz_rules.proofs.SpaceStores.{choose_if}
 use Rattle.uz_rules.proofs.StoreClasses.{SetsNothingElse, free_by}
@@ -73,22 +73,14 @@ timer_high at h = grind (arith, nat_tests)
 timer_other : (at : ℕ) → is_setup_register at ≡ false → nat_eq at 0x36 ≡ false → nat_eq at 0x88 ≡ false → nat_eq at 0x89 ≡ false
     → is_timer_address at ≡ false
 timer_other at io f low high =
-    elim (eqb_tells at 0x6F) [
-      | inl a ↦ let z = subst (λ n. is_setup_register n ≡ false) a.1 io in absurd cc
-      | inr a ↦ elim (eqb_tells at 0x80) [
-        | inl b ↦ let z = subst (λ n. is_setup_register n ≡ false) b.1 io in absurd cc
-        | inr b ↦ elim (eqb_tells at 0x81) [
-          | inl c ↦ let z = subst (λ n. is_setup_register n ≡ false) c.1 io in absurd cc
-          | inr c ↦ elim (eqb_tells at 0x84) [
-            | inl d ↦ let z = subst (λ n. is_setup_register n ≡ false) d.1 io in absurd cc
-            | inr d ↦ elim (eqb_tells at 0x85) [
-              | inl e ↦ let z = subst (λ n. is_setup_register n ≡ false) e.1 io in absurd cc
-              | inr e ↦ rw (f, a.0, b.0, c.0, d.0, e.0, low, high) refl
-            ]
-          ]
-        ]
-      ]
-    ]
+    let ports = or_parts (nat_eq at 0x2A) _ (or_parts (nat_eq at 0x27) _ (or_parts (nat_eq at 0x24) _
+    (or_parts (nat_eq at 0x21) _ io).1).1).1 in
+    let a = or_parts (nat_eq at 0x6F) _ (or_parts (nat_eq at 0x5E) _ (or_parts (nat_eq at 0x5D) _ ports.1).1).1 in
+    let b = or_parts (nat_eq at 0x80) _ a.1 in
+    let c = or_parts (nat_eq at 0x81) _ b.1 in
+    let d = or_parts (nat_eq at 0x84) _ c.1 in
+    let e = or_parts (nat_eq at 0x85) _ d.1 in
+    rw (f, a.0, b.0, c.0, d.0, e.0, low, high) refl
 
 -- TIFR1
 flag_written : {P : Type 0} (w : PadWiring P) (s : Space P) (v : ℕ) (clears : Bool) → bit_is_set v 1 ≡ clears
