@@ -14,7 +14,7 @@ returns-in-None-clause-accepted c = none_accepts c.local_is_unique.ensures c.arg
 pub returns-in-Some-clause-accepted : goal.returns-in-Some-clause-accepted
 returns-in-Some-clause-accepted c =
     let accepts = none_accepts c.local_is_unique.ensures c.args.image c.args.cert (Some c.in-Some.why) c.requires.schedule
-        c.in-Some.ensures.first in
+    c.in-Some.ensures.first in
     (λ ok. absurd cc, λ rules. absurd (cc (accepts.1 rules)))
 
 pub returns-in-Some-clause-there : goal.returns-in-Some-clause-there
