@@ -1,15 +1,16 @@
-use Rattle.uz_check.proofs.Common.{refl, None, Some}
-use Rattle.uz_check.proofs.Accepting.{none_accepts, verdict_there}
+use Rattle.uz_check.proofs.Common.{refl, Some}
+use Rattle.uz_check.proofs.Accepting.{none_accepts, rules_hold, verdict_there}
 use Rattle.uz_check.proofs.acceptance.check_counted.Goals as goal
 
+pub invariant_of-result : goal.invariant_of-result
+invariant_of-result c = (c.requires, rules_hold c.args.image c.args.cert c.requires.schedule c.in-None.ensures.first)
+
 pub returns-in-None-clause-certified : goal.returns-in-None-clause-certified
-returns-in-None-clause-certified c =
-    let accepts = none_accepts c.local_is_unique.ensures c.args.image c.args.cert None c.requires.schedule c.in-None.ensures.first in
-    c.soundness.ensures.certified c.args.image c.args.cert c.requires (accepts.0 refl)
+returns-in-None-clause-certified c = c.soundness.ensures.certified c.args.image c.args.cert c.requires
+    (rules_hold c.args.image c.args.cert c.requires.schedule c.in-None.ensures.first)
 
 pub returns-in-None-clause-accepted : goal.returns-in-None-clause-accepted
-returns-in-None-clause-accepted c = none_accepts c.local_is_unique.ensures c.args.image c.args.cert None c.requires.schedule
-    c.in-None.ensures.first
+returns-in-None-clause-accepted c = (λ _. rules_hold c.args.image c.args.cert c.requires.schedule c.in-None.ensures.first, λ _. refl)
 
 pub returns-in-Some-clause-accepted : goal.returns-in-Some-clause-accepted
 returns-in-Some-clause-accepted c =
