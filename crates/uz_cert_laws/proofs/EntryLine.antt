@@ -1,6 +1,6 @@
 -- The line of an entry.
 use Rattle.uz_cert_laws.proofs.Common.{◌≡◌, ℕ, zero, suc, ◌<◌, ◌≤◌, Bool, true, false, cond, ◌&&◌, eqb, List, [], ◌∷◌, ◌++◌, map, length}
-use Rattle.uz_cert_laws.proofs.Common.{decimal, codes, lit<, lit≤, refl, sym, ◌∙◌, ap, subst, append-nil, arith, Ok, All-nil, All-cons}
+use Rattle.uz_cert_laws.proofs.Common.{decimal, codes, lit≤, refl, sym, ◌∙◌, ap, subst, append-nil, arith, Ok, All-nil, All-cons}
 use Rattle.uz_cert_laws.proofs.Common.{All-head, All-tail, Ends, clock_limit, RangeFits, CellFits, BitFits, Kind, Main, Handler, Alone}
 use Rattle.uz_cert_laws.proofs.Common.{Cell, Head, Fact, Words, choice_of, range_fact, is_handler, bytes_forms, LineForm, number, items}
 use Rattle.uz_cert_laws.proofs.Common.{reads, within, one_of, none_in_main, span_of_fact, FactForms, Facts, ParsedLine, kind_word}
@@ -12,13 +12,13 @@ use Rattle.uz_schedule.specs.WellFormed.{SpansFit, EntryKindFits, EntryFactsFit,
 use Rattle.uz_cert_lines.specs.Lines.{shape_of, entry_of, entry_kind, entry_form}
 use Rattle.uz_cert_writer.specs.Spelling.{range_facts, entry_items, entry_words}
 use Rattle.uz_cert_laws.proofs.FormLaws.{Fit, SaysFacts, IsReadable, form_again, form_only}
-use Rattle.uz_cert_laws.proofs.Fitting.{each_of_all, all_of_each, all_other, all_map, map_back, bit_in, bit_out, range_in, SaysRange}
+use Rattle.uz_cert_laws.proofs.Fitting.{each_of_all, all_of_each, all_map, map_back, range_in, SaysRange}
 use Rattle.uz_cert_laws.proofs.Fitting.{says_range, span_back, entry_cell, entry_form_is, spans_in, spans_out, under_none, none_under}
 use Rattle.uz_cert_laws.proofs.Fitting.{none_small}
 use Rattle.uz_cert_laws.proofs.Numbers.{is_within as within_so, one_of_so}
 use Rattle.uz_schedule.specs.{declared.states.Entry.Entry, Tracked.tracked, Tracked.depth_of}
 use Rattle.uz_cert_laws.proofs.{Spans.bytes_of, ReadItems.ShapeFits, ItemForms.cell_form, SpelledItems.FactsFit, Facts.FactIn}
-use Rattle.uz_cert_laws.proofs.{Facts.BitIn, Sections.each_length, Sections.each_other, Tests.both_of, Tests.fine, Tests.true_not}
+use Rattle.uz_cert_laws.proofs.{Sections.each_length, Sections.each_other, Tests.both_of, Tests.fine, Tests.true_not}
 use Rattle.uz_cert_laws.proofs.{Spelled.registers, Spelled.numbered_cells, Named.say_usuals, Named.usuals, Named.left_out}
 use Rattle.uz_cert_lines.specs.declared.lines.ParsedLine.TheVariants as parsed
 
@@ -66,9 +66,8 @@ entry_sayable h lines points e f =
     record {
       regs_fit = each_of_all (FactIn (bytes_forms shape)) registers (range_facts e.regs) (length-map e.regs range_fact ∙ f.registers)
           (facts e.regs f.ranges);
-      pairs_fit = ((refl, lit< tt), ((refl, lit< tt), ((refl, lit< tt), tt)));
-      flags_fit = each_of_all (BitIn (is_handler e.kind)) letters_of_flags e.flags f.flag_count
-          (all_other (BitFits e.kind) (BitIn (is_handler e.kind)) e.flags (bit_in e.kind) f.flags);
+      pairs_fit = (tt, (tt, (tt, tt)));
+      flags_fit = each_of_all (BitFits e.kind) letters_of_flags e.flags f.flag_count f.flags;
       slots_fit = omega (arith, f.slots, length-map e.stack.items range_fact);
       stack_fit = facts e.stack.items f.stack;
       cells_fit = each_other (λ p x. FactIn (entry_cell p.1) x) (λ p x. FactIn (cell_form shape p.1) x)
@@ -201,9 +200,8 @@ facts_said h kind points f r =
       regs_back = back f.regs regs;
       regs_fit = fit f.regs regs;
       regs_count = length-map f.regs span_of_fact ∙ each_length (λ k x. FactIn (bytes_forms shape) x) registers f.regs r.regs_fit;
-      flag_count = each_length (λ k x. BitIn (is_handler kind) x) letters_of_flags f.flags r.flags_fit;
-      flags_fit = all_other (BitIn (is_handler kind)) (BitFits kind) f.flags (bit_out kind)
-          (all_of_each (BitIn (is_handler kind)) letters_of_flags f.flags r.flags_fit);
+      flag_count = each_length (λ k x. BitFits kind x) letters_of_flags f.flags r.flags_fit;
+      flags_fit = all_of_each (BitFits kind) letters_of_flags f.flags r.flags_fit;
       stack_back = back f.stack.items r.stack_fit;
       stack_fit = fit f.stack.items r.stack_fit;
       slots = omega (arith, r.slots_fit, length-map f.stack.items span_of_fact);

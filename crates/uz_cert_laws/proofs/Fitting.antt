@@ -1,13 +1,13 @@
 -- What a well formed certificate lets be said of states is what the forms of their lines let in, and the other way round.
 use Rattle.uz_cert_laws.proofs.Common.{◌≡◌, ℕ, suc, ◌+◌, ◌-◌, ◌*◌, ◌/◌, ◌<◌, ◌≤◌, ◌^◌, Bool, true, false, cond, not, ◌&&◌, eqb, leb, List}
 use Rattle.uz_cert_laws.proofs.Common.{[], ◌∷◌, map, length, filter, lit<, lit≤, refl, sym, ◌∙◌, ap, subst, arith, All-nil, All-cons}
-use Rattle.uz_cert_laws.proofs.Common.{All-head, All-tail, Ends, is_within, tracks, RangeFits, FactFits, PairFits, BitFits, spans_fit}
-use Rattle.uz_cert_laws.proofs.Common.{Kind, Main, Handler, Alone, Cell, Fact, Any, Between, Line, Loop, Old, OldFlags, PairFact, Bit}
-use Rattle.uz_cert_laws.proofs.Common.{Zero, One, Free, range_fact, is_handler, bytes_forms, pair_forms, none_in_main, span_of_fact}
-use Rattle.uz_cert_laws.proofs.Common.{FactForms, Shape, All, AnyPair, BetweenPair, LinePair, LoopPair, OldBit}
+use Rattle.uz_cert_laws.proofs.Common.{All-head, All-tail, Ends, is_within, tracks, RangeFits, FactFits, spans_fit}
+use Rattle.uz_cert_laws.proofs.Common.{Kind, Main, Handler, Alone, Cell, Fact, Any, Between, Line, Loop, Old, OldFlags}
+use Rattle.uz_cert_laws.proofs.Common.{range_fact, is_handler, bytes_forms, none_in_main, span_of_fact}
+use Rattle.uz_cert_laws.proofs.Common.{FactForms, Shape, All}
 use Rattle.uz_schedule.specs.WellFormed.{CellFactFits}
 use Rattle.uz_cert_laws.proofs.Tests.{and_true, both_true, true_not, le_is, is_le, else_so, number_is, not_le}
-use Rattle.uz_cert_laws.proofs.Facts.{FactIn, PairIn, BitIn, part_from, part_not_whole, whole_ends}
+use Rattle.uz_cert_laws.proofs.Facts.{FactIn, handler_is, part_from, part_not_whole, whole_ends}
 use Rattle.uz_cert_laws.proofs.{ItemForms.cell_form, Spelled.numbered_cells, Sections.Each, Sections.each_length, Sections.each_other}
 use Rattle.std.proofs.{Common.mul_comm, lemmas.Nat.div_below, lemmas.Nat.le-div}
 
@@ -42,21 +42,13 @@ map_back {A} P f g (x ∷ xs) e h =
 
 -- facts of points
 
-handler_is : (kind : Kind) → is_handler kind ≡ true → kind ≡ Handler
-handler_is Main e = absurd cc
-handler_is Handler e = refl
-handler_is Alone e = absurd cc
-
-is_handler_so : (kind : Kind) → kind ≡ Handler → is_handler kind ≡ true
-is_handler_so kind e = ap is_handler e
-
 pub fact_in : (shape : Shape) (f : Fact) → shape.plain ≡ false → FactFits shape.kind f → FactIn (bytes_forms shape) f
 fact_in shape Any p h = (refl, lit< tt)
 fact_in shape (Between e) p h = (h, omega arith, omega (arith, h.range.high))
 fact_in shape (Line a b) p h = (ap not p, h.some, omega (arith, h.factor), omega (arith, h.offset))
 fact_in shape (Loop a b) p h = (ap not p, h.some, omega (arith, h.factor), omega (arith, h.offset))
-fact_in shape (Old r) p h = (both_true (is_handler shape.kind) (not shape.plain) (is_handler_so shape.kind h.0) (ap not p), h.1)
-fact_in shape OldFlags p h = both_true (is_handler shape.kind) (not shape.plain) (is_handler_so shape.kind h) (ap not p)
+fact_in shape (Old r) p h = (both_true (is_handler shape.kind) (not shape.plain) (ap is_handler h.0) (ap not p), h.1)
+fact_in shape OldFlags p h = both_true (is_handler shape.kind) (not shape.plain) (ap is_handler h) (ap not p)
 
 pub fact_out : (shape : Shape) (f : Fact) → FactIn (bytes_forms shape) f → FactFits shape.kind f
 fact_out shape Any h = tt
@@ -124,30 +116,6 @@ cells_out shape cells fs p h = (
       (each_other (λ q x. FactIn (cell_form shape q.1) x) (λ k x. CellFactFits x) (numbered_cells shape.kind 0 cells) fs
       (λ q x i. cell_out x (subst (λ (f : FactForms). FactIn f x) (cell_form_is shape q.1 p) i)) h),
 )
-
-pub pair_in : (f : PairFact) → PairFits f → PairIn pair_forms f
-pair_in AnyPair h = (refl, lit< tt)
-pair_in (BetweenPair e) h = (h, omega arith, omega (arith, h.range.high))
-pair_in (LinePair a b) h = (refl, h.some, omega (arith, h.factor), omega (arith, h.offset))
-pair_in (LoopPair a b) h = (refl, h.some, omega (arith, h.factor), omega (arith, h.offset))
-
-pub pair_out : (f : PairFact) → PairIn pair_forms f → PairFits f
-pair_out AnyPair h = tt
-pair_out (BetweenPair e) h = h.0
-pair_out (LinePair a b) h = record { some = h.1; factor = omega (arith, h.2); offset = omega (arith, h.3) }
-pair_out (LoopPair a b) h = record { some = h.1; factor = omega (arith, h.2); offset = omega (arith, h.3) }
-
-pub bit_in : (kind : Kind) (b : Bit) → BitFits kind b → BitIn (is_handler kind) b
-bit_in kind Zero h = tt
-bit_in kind One h = tt
-bit_in kind Free h = tt
-bit_in kind OldBit h = is_handler_so kind h
-
-pub bit_out : (kind : Kind) (b : Bit) → BitIn (is_handler kind) b → BitFits kind b
-bit_out kind Zero h = tt
-bit_out kind One h = tt
-bit_out kind Free h = tt
-bit_out kind OldBit h = handler_is kind h
 
 -- ranges of entries
 

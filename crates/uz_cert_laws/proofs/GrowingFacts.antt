@@ -1,7 +1,7 @@
 -- Facts as they grow while items are read: what is spelled of them is what was read.
 use Rattle.uz_cert_laws.proofs.Common.{◌≡◌, ℕ, suc, ◌+◌, ◌-◌, ◌<◌, ◌≤◌, true, leb, List, [], ◌∷◌, ◌++◌, map, length, decimal, codes, lit≤}
 use Rattle.uz_cert_laws.proofs.Common.{refl, sym, ◌∙◌, ap, subst, add-one, length-append, arith, slice_set, rises_from, rises, Cell, Fact}
-use Rattle.uz_cert_laws.proofs.Common.{PairFact, Bit, is_default, is_handler, bytes_forms, pair_forms, tracked_before, Shape, Facts}
+use Rattle.uz_cert_laws.proofs.Common.{PairFits, BitFits, PairFact, Bit, is_default, bytes_forms, tracked_before, Shape, Facts}
 use Rattle.uz_cert_laws.proofs.Common.{register_item, pair_item, flag_item, fact_word, register_items, pair_items, flag_items, slot_items}
 use Rattle.uz_cert_laws.proofs.Common.{cell_items, successor_items, named_items, named_place, successors_place, NamedValues, named_of}
 use Rattle.uz_cert_laws.proofs.Common.{with_named, All, letters_of_pairs, letters_of_flags, spelled}
@@ -16,7 +16,7 @@ use Rattle.uz_cert_laws.proofs.ItemForms.{slot, cell, successor, cell_form, pair
 use Rattle.uz_cert_laws.proofs.Sections.{Section, IsSection, Sections, last, section, Values, FitAll, AreSections, TypeAt, section_at}
 use Rattle.uz_cert_laws.proofs.Sections.{value_at, with_value, after_from, Grown, grown, option_section, options_are, option_more}
 use Rattle.uz_cert_laws.proofs.Sections.{OptionList, AreOptions}
-use Rattle.uz_cert_laws.proofs.{Facts.FactIn, Facts.PairIn, Facts.BitIn, Tests.both_of, Tests.and_true, Tests.both_true, Tests.is_le}
+use Rattle.uz_cert_laws.proofs.{Facts.FactIn, Tests.both_of, Tests.and_true, Tests.both_true, Tests.is_le}
 use Rattle.uz_cert_laws.proofs.{Tests.true_not, Named.listed_section, Named.listed_is, Named.SetsOne, Named.sets_between, Named.sets_more}
 use Rattle.std.proofs.{lemmas.List.map-append, lemmas.List.Elements.All-push, lemmas.Option.slice_get-get_or}
 
@@ -54,7 +54,7 @@ module _ (shape : Shape) (cells : List Cell) where
     is_usual = any_pair;
     usual = usual_pair;
     word = pair_item;
-    Within = λ l x. PairIn pair_forms x;
+    Within = λ l x. PairFits x;
     spelled = pair_items letters_of_pairs;
     before = λ m. m - 32;
     start = 32;
@@ -66,7 +66,7 @@ module _ (shape : Shape) (cells : List Cell) where
     is_usual = usual_flag shape.kind;
     usual = usual_bit shape.kind;
     word = flag_item;
-    Within = λ l x. BitIn (is_handler shape.kind) x;
+    Within = λ l x. BitFits shape.kind x;
     spelled = flag_items shape.kind letters_of_flags;
     before = λ m. m - 35;
     start = 35;

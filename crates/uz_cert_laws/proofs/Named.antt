@@ -2,14 +2,14 @@
 -- for each table of such items.
 use Rattle.uz_cert_laws.proofs.Common.{◌≡◌, ◌⊎◌, inl, inr, ℕ, ◌+◌, ◌<◌, ◌≤◌, ◌^◌, Bool, true, false, cond, not, ◌&&◌, ◌||◌, eqb, leb, ltb}
 use Rattle.uz_cert_laws.proofs.Common.{List, [], ◌∷◌, ◌++◌, length, decimal, bytes_eq, lit≤, refl, sym, ◌∙◌, ap, subst, append_assoc}
-use Rattle.uz_cert_laws.proofs.Common.{arith, ⊤, Result, Ok, Err, plain, RangeFits, ◌>>=◌, one_number, range, ends_of, names_c_or_z}
+use Rattle.uz_cert_laws.proofs.Common.{arith, ⊤, Ok, Err, plain, RangeFits, ◌>>=◌, one_number, range, ends_of, names_c_or_z}
 use Rattle.uz_cert_laws.proofs.Common.{any_names, ValueForm, a_number, a_range, a_comparison, a_register, ValueOf, is_usual, NamedItem}
-use Rattle.uz_cert_laws.proofs.Common.{named_items, named_place, NamedValues, Shape, Facts, CertWhy, item, unless, range_word, value_word}
+use Rattle.uz_cert_laws.proofs.Common.{named_items, named_place, NamedValues, Shape, Facts, item, unless, range_word, value_word}
 use Rattle.uz_cert_laws.proofs.Common.{value_item, value_items, listed_items, temp_forms, ComparedFits, SplitFits}
-use Rattle.uz_cert_laws.proofs.Tests.{and_true, both_true, neither, not_true, true_not, refuted, fine_is, fault_not, passed, so, else_so}
+use Rattle.uz_cert_laws.proofs.Tests.{and_true, both_true, neither, not_true, true_not, refuted, fine, fine_is, fault_not, passed, so, else_so}
 use Rattle.uz_cert_laws.proofs.Tests.{tested, bind_ok, then, le_is, is_le, lt_is, number_is, same_number, word_is, same_word}
 use Rattle.uz_cert_laws.proofs.Comparisons.{comparison_only, comparison_so, nothing_is, split_only, split_so, none_is}
-use Rattle.uz_cert_laws.proofs.Facts.{temp_only, temp_raw, temp_so, whole_ends, part_from}
+use Rattle.uz_cert_laws.proofs.Facts.{temp_only, temp_so, whole_ends, part_from}
 use Rattle.uz_cert_laws.proofs.{Sections.Section, Sections.IsSection, Numbers.one_only, Numbers.one_so, Numbers.lacks}
 use Rattle.uz_cert_lines.specs.{Named.usual_of, Named.value_read, Items.in_order, Items.value_set, Items.take_value, Items.take_listed}
 use Rattle.uz_cert_lines.specs.declared.why.CertWhy.TheVariants as why
@@ -91,7 +91,7 @@ value_so (a_number limit may usual) n s f o =
     (one_so 0 limit n (small limit usual may s) (omega arith) f.1) (so (may n) (Ok n) (Err why.Limit) f.0)
 value_so a_range x s f o =
     let is = temp_so x (part_from x f o) in
-    then (range temp_forms (range_word x)) (λ raw. ends_of raw) (temp_raw x) (Ok x) is.0 is.1
+    then (range temp_forms (range_word x)) (λ raw. ends_of raw) is.0 (Ok x) is.1 is.2
 value_so a_comparison x s f o = comparison_so x f o
 value_so a_register x s f o = split_so x f o
 
@@ -339,66 +339,83 @@ listed_taken (i ∷ is) place shape facts v put w key value more s e h =
     (λ _ h. let m = listed_taken is (place + 1) shape facts v.1 (λ later. put (v.0, later)) w key value more (table i is s).rest e h in
     ((v.0, m.0), m.1, inr (refl, m.2), m.3))
 
-value_takes : (i : NamedItem) (shape : Shape) (facts : Facts) (place : ℕ) (put : ValueOf i.form → ℕ → Facts) (x : ValueOf i.form)
-    → is_sound i.form ≡ true → SetsValue i place shape facts.least (value_item i x) x
+value_takes : (i : NamedItem) (shape : Shape) (facts : Facts) (place : ℕ) (put : ValueOf i.form → ℕ → Facts) (w : List ℕ) (x : ValueOf i.form)
+    → is_sound i.form ≡ true → SetsValue i place shape facts.least w x
     → take_value i shape facts place put (value_word i.form x) ≡ Ok (put x (place + 1))
 unfolding take_value
-value_takes i shape facts place put x s t =
+value_takes i shape facts place put w x s t =
     so (i.stands shape) (value_read i.form (value_word i.form x) >>= (λ y. value_set i facts place put y)) (Err why.Word) t.stands
     ∙ then (value_read i.form (value_word i.form x)) (λ y. value_set i facts place put y) x (Ok (put x (place + 1)))
     (value_so i.form x s t.fits t.other)
     (order_so facts place (is_usual i.form x) (put x (place + 1)) t.order t.other)
 
--- Reading goes on with these facts and words. Where a word is read first (takes), it goes on with what that makes. Each value is
--- read where its item is reached by its name, and the default stands where there was none.
-module _ (shape : Shape) (Done : Facts → List (List ℕ) → Type 0) (take : Facts → List ℕ → List (List ℕ) → Result Facts CertWhy)
-    (done : (f more : Facts) (w : List ℕ) (ws : List (List ℕ)) → take f w ws ≡ Ok more → Done more ws → Done f (w ∷ ws)) where
-  abbrev Reaches : (is : List NamedItem) → ℕ → (NamedValues is → ℕ → Facts) → Type 0
-  Reaches is place at =
-      (old : NamedValues is) (n : ℕ) (key value : List ℕ) (ws : List (List ℕ)) → among key is ≡ true → is_name key ≡ true
-      → ((at old n).least ≡ n) × (take (at old n) (item key value) ws ≡ take_listed is place shape (at old n) old at key value)
+-- a word that sets one of these values is an item of a name in the table, and is taken
+pub record ListedTakes (is : List NamedItem) (place : ℕ) (shape : Shape) (facts : Facts) (v : NamedValues is)
+    (put : NamedValues is → ℕ → Facts) (w : List ℕ) (new : NamedValues is) (next : ℕ) : Type 0 where
+  pub key : List ℕ
+  pub value : List ℕ
+  pub word : w ≡ item key value
+  pub name : is_name key ≡ true
+  pub known : among key is ≡ true
+  pub takes : take_listed is place shape facts v put key value ≡ Ok (put new next)
 
-  after : (i : NamedItem) (is : List NamedItem) (place : ℕ) (at : NamedValues (i ∷ is) → ℕ → Facts) (x : ValueOf i.form) → IsTable i is
-      → Reaches (i ∷ is) place at → Reaches is (place + 1) (λ w n. at (x, w) n)
-  after i is place at x t reach old n key value ws a name =
-      let here = reach (x, old) n key value ws (or_second (bytes_eq key i.key) (among key is) a) name in
-      let other = refuted (bytes_eq key i.key)
-      (λ same. true_not (among i.key is) (sym (ap (λ k. among k is) (word_is key i.key same)) ∙ a) t.other) in (
-        here.0,
-        here.1 ∙ else_so (bytes_eq key i.key) (take_value i shape (at (x, old) n) place (λ y. at (y, old)) value)
-            (take_listed is (place + 1) shape (at (x, old) n) old (λ w. at (x, w)) key value) other,
-      )
+pub listed_takes : (is : List NamedItem) (place : ℕ) (shape : Shape) (facts : Facts) (v : NamedValues is) (put : NamedValues is → ℕ → Facts)
+    (w : List ℕ) (new : NamedValues is) (next : ℕ) → is_table is ≡ true → SetsOne is place shape facts.least v w new next
+    → ListedTakes is place shape facts v put w new next
+listed_takes [] place shape facts v put w new next s t = absurd t
+listed_takes (i ∷ is) place shape facts v put w new next s (inl t) =
+    let value = value_word i.form new.0 in
+    record {
+      key = i.key;
+      value = value;
+      word = t.0.word;
+      name = (table i is s).name;
+      known = ap (λ b. b || among i.key is) (same_word i.key);
+      takes = so (bytes_eq i.key i.key) (take_value i shape facts place (λ x. put (x, v.1)) value)
+          (take_listed is (place + 1) shape facts v.1 (λ later. put (v.0, later)) i.key value) (same_word i.key)
+          ∙ value_takes i shape facts place (λ x. put (x, v.1)) w new.0 (table i is s).sound t.0
+          ∙ ap (λ later. fine (put (new.0, later) (place + 1))) (sym t.1) ∙ ap (λ n. fine (put new n)) (sym t.2);
+    }
+listed_takes (i ∷ is) place shape facts v put w new next s (inr t) =
+    let n = listed_takes is (place + 1) shape facts v.1 (λ later. put (v.0, later)) w new.1 next (table i is s).rest t.1 in
+    let other = refuted (bytes_eq n.key i.key)
+    (λ same. true_not (among i.key is) (sym (ap (λ k. among k is) (word_is n.key i.key same)) ∙ n.known) (table i is s).other) in
+    record {
+      key = n.key;
+      value = n.value;
+      word = n.word;
+      name = n.name;
+      known = or_second (bytes_eq n.key i.key) (among n.key is) n.known;
+      takes = else_so (bytes_eq n.key i.key) (take_value i shape facts place (λ x. put (x, v.1)) n.value)
+          (take_listed is (place + 1) shape facts v.1 (λ later. put (v.0, later)) n.key n.value) other
+          ∙ n.takes ∙ ap (λ x. fine (put (x, new.1) next)) (sym t.0);
+    }
 
-  one_read : (i : NamedItem) (is : List NamedItem) (place least : ℕ) (at : NamedValues (i ∷ is) → ℕ → Facts) (x : ValueOf i.form)
-      (words : List (List ℕ)) → IsTable i is → Reaches (i ∷ is) place at
-      → ValueFits i.form x × (i.stands shape ≡ false → x ≡ usual_of i.form) → least ≤ place
-      → ((low : ℕ) → low ≤ place + 1 → Done (at (x, usuals is) low) words)
-      → (b : Bool) → is_usual i.form x ≡ b → Done (at (usual_of i.form, usuals is) least) (unless b (value_item i x) [] ++ words)
-  one_read i is place least at x words t reach s l next true u =
-      subst (λ y. Done (at (y, usuals is) least) words) (usual_only i.form x u) (next least (omega (arith, l)))
-  one_read i is place least at x words t reach s l next false u =
-      let f = at (usual_of i.form, usuals is) least in
-      let first = ap (λ b. b || among i.key is) (same_word i.key) in
-      let here = reach (usual_of i.form, usuals is) least i.key (value_word i.form x) words first t.name in
-      done f (at (x, usuals is) (place + 1)) (value_item i x) words
-      (here.1
-      ∙ so (bytes_eq i.key i.key) (take_value i shape f place (λ y. at (y, usuals is)) (value_word i.form x))
-      (take_listed is (place + 1) shape f (usuals is) (λ w. at (usual_of i.form, w)) i.key (value_word i.form x)) (same_word i.key)
-      ∙ value_takes i shape f place (λ y. at (y, usuals is)) x t.sound
-      (record { word = refl; stands = stands (i.stands shape) refl; fits = s.0; order = omega (arith, here.0, l); other = u }))
-      (next (place + 1) (omega arith))
-    where
-      stands : (b : Bool) → i.stands shape ≡ b → b ≡ true
-      stands true e = refl
-      stands false e = absurd (true_not (is_usual i.form x) (ap (is_usual i.form) (s.1 e) ∙ usual_is i.form) u)
+-- Reads values least: words say the rest where these values stand, and items are due from the place least on. Where a word that sets
+-- a value comes before such words, they say the rest too (step). So each value is read, and the default stands where there was none.
 
-  pub listed_read : (is : List NamedItem) (place least : ℕ) (at : NamedValues is → ℕ → Facts) (v : NamedValues is)
-      (later : List (List ℕ)) → is_table is ≡ true → Reaches is place at → Say is shape v → least ≤ place
-      → ((low : ℕ) → low ≤ place + length is → Done (at v low) later) → Done (at (usuals is) least) (listed_items is v ++ later)
-  listed_read [] place least at v later e reach s l go = go least (omega arith)
-  listed_read (i ∷ is) place least at v later e reach s l go =
-      let t = table i is e in
-      subst (λ ws. Done (at (usuals (i ∷ is)) least) ws) (sym (append_assoc (value_items i v.0) (listed_items is v.1) later))
-      (one_read i is place least at v.0 (listed_items is v.1 ++ later) t reach s.0 l
-      (λ low m. listed_read is (place + 1) low (λ w n. at (v.0, w) n) v.1 later t.rest (after i is place at v.0 t reach) s.1 m
-      (λ n k. go n (omega (arith, k)))) (is_usual i.form v.0) refl)
+one_read : (shape : Shape) (i : NamedItem) (is : List NamedItem) (place least : ℕ) (Reads : NamedValues (i ∷ is) → ℕ → Type 0)
+    (step : (old new : NamedValues (i ∷ is)) (low next : ℕ) (w : List ℕ) → SetsOne (i ∷ is) place shape low old w new next → Reads new next
+    → Reads old low)
+    (x : ValueOf i.form) → ValueFits i.form x × (i.stands shape ≡ false → x ≡ usual_of i.form) → least ≤ place
+    → ((low : ℕ) → low ≤ place + 1 → Reads (x, usuals is) low) → (b : Bool) → is_usual i.form x ≡ b → Reads (usual_of i.form, usuals is) least
+one_read shape i is place least Reads step x s l later true u =
+    subst (λ y. Reads (y, usuals is) least) (usual_only i.form x u) (later least (omega (arith, l)))
+one_read shape i is place least Reads step x s l later false u =
+    step (usual_of i.form, usuals is) (x, usuals is) least (place + 1) (value_item i x)
+    (inl (record { word = refl; stands = stands (i.stands shape) refl; fits = s.0; order = l; other = u }, refl, refl))
+    (later (place + 1) (omega arith))
+  where
+    stands : (b : Bool) → i.stands shape ≡ b → b ≡ true
+    stands true e = refl
+    stands false e = absurd (true_not (is_usual i.form x) (ap (is_usual i.form) (s.1 e) ∙ usual_is i.form) u)
+
+pub listed_read : (shape : Shape) (is : List NamedItem) (place least : ℕ) (Reads : NamedValues is → ℕ → Type 0)
+    (step : (old new : NamedValues is) (low next : ℕ) (w : List ℕ) → SetsOne is place shape low old w new next → Reads new next → Reads old low)
+    (v : NamedValues is) → Say is shape v → least ≤ place → ((low : ℕ) → low ≤ place + length is → Reads v low) → Reads (usuals is) least
+listed_read shape [] place least Reads step v s l go = go least (omega (arith, l))
+listed_read shape (i ∷ is) place least Reads step v s l go =
+    one_read shape i is place least Reads step v.0 s.0 l
+    (λ low m. listed_read shape is (place + 1) low (λ w n. Reads (v.0, w) n)
+    (λ old new a b w t d. step (v.0, old) (v.0, new) a b w (inr (refl, t)) d) v.1 s.1 m (λ n k. go n (omega (arith, k))))
+    (is_usual i.form v.0) refl

@@ -3,7 +3,7 @@ use Rattle.uz_cert_laws.proofs.Common.{◌≡◌, ℕ, zero, suc, ◌+◌, ◌-�
 use Rattle.uz_cert_laws.proofs.Common.{◌∷◌, decimal, codes, get_or, lit<, lit≤, refl, sym, ◌∙◌, ap, subst, arith, Ok, decimal_digit}
 use Rattle.uz_cert_laws.proofs.Common.{clock_limit, scanline, RangeFits, FactFits, PairFits, BitFits, magnitude, is_zero_or_one}
 use Rattle.uz_cert_laws.proofs.Common.{is_carry_and_zero_default, Kind, Main, Handler, Alone, Head, Words, choice_of, is_handler}
-use Rattle.uz_cert_laws.proofs.Common.{bytes_forms, pair_forms, reads, none_in_main, Facts, ParsedLine, Version, First, Second, Third}
+use Rattle.uz_cert_laws.proofs.Common.{bytes_forms, reads, none_in_main, Facts, ParsedLine, Version, First, Second, Third}
 use Rattle.uz_cert_laws.proofs.Common.{kind_word, Option, None, signed_word, named_items, named_of, with_named, usual_facts, Shape, ℤ}
 use Rattle.uz_cert_laws.proofs.Common.{pos, negsuc, ComparedFits, SplitFits, Compared, AnyPair, line, PlacesAre, word_at, Parts, says}
 use Rattle.uz_cert_laws.proofs.Common.{spells, letters_of_pairs, letters_of_flags, spelled}
@@ -16,13 +16,13 @@ use Rattle.uz_cert_writer.specs.Spelling.{truth_word, point_items, point_words}
 use Rattle.uz_cert_laws.proofs.Tests.{some_not, both_of, fine, true_not, number_is}
 use Rattle.uz_cert_laws.proofs.Numbers.{is_within as within_so, under_both, both_under, least_small}
 use Rattle.uz_cert_laws.proofs.FormLaws.{Fit, SaysFacts, IsReadable, form_again, form_only}
-use Rattle.uz_cert_laws.proofs.Fitting.{each_of_all, all_of_each, all_other, fact_in, fact_out, cells_in, cells_out, pair_in, pair_out}
-use Rattle.uz_cert_laws.proofs.Fitting.{bit_in, bit_out, under_none, none_under, none_small, box_under, under_box}
+use Rattle.uz_cert_laws.proofs.Fitting.{each_of_all, all_of_each, all_other, fact_in, fact_out, cells_in, cells_out}
+use Rattle.uz_cert_laws.proofs.Fitting.{under_none, none_under, none_small, box_under, under_box}
 use Rattle.uz_schedule.specs.{Limits.is_top, Ends.whole_byte, Schedule.half_line, declared.states.Point.Point}
 use Rattle.uz_schedule.specs.{declared.kinds.RuleVersion.RuleVersion, declared.facts.Compared.TheVariants.Nothing}
 use Rattle.uz_cert_lines.specs.{Named.values_of, Named.point_of, declared.lines.PointPlace.PointPlace}
 use Rattle.uz_cert_laws.proofs.{Named.Say, Spelled.registers, ReadItems.ShapeFits, Sections.each_length, EntryLine.shape_fits}
-use Rattle.uz_cert_laws.proofs.{SpelledItems.FactsFit, Facts.FactIn, Facts.PairIn, Facts.BitIn}
+use Rattle.uz_cert_laws.proofs.{SpelledItems.FactsFit, Facts.FactIn}
 use Rattle.uz_cert_lines.specs.declared.lines.ParsedLine.TheVariants as parsed
 
 -- again
@@ -114,10 +114,8 @@ point_sayable version h lines points p f o =
     record {
       regs_fit = each_of_all (FactIn (bytes_forms shape)) registers p.regs f.core.register_count
           (all_other (FactFits p.kind) (FactIn (bytes_forms shape)) p.regs (λ x i. fact_in shape x refl i) f.core.registers);
-      pairs_fit = each_of_all (PairIn pair_forms) letters_of_pairs p.pairs f.core.pair_count (all_other PairFits (PairIn pair_forms) p.pairs
-          pair_in f.core.pairs);
-      flags_fit = each_of_all (BitIn (is_handler p.kind)) letters_of_flags p.flags f.core.flag_count
-          (all_other (BitFits p.kind) (BitIn (is_handler p.kind)) p.flags (bit_in p.kind) f.core.flags);
+      pairs_fit = each_of_all PairFits letters_of_pairs p.pairs f.core.pair_count f.core.pairs;
+      flags_fit = each_of_all (BitFits p.kind) letters_of_flags p.flags f.core.flag_count f.core.flags;
       slots_fit = f.memory.slots;
       stack_fit = all_other (FactFits p.kind) (FactIn (bytes_forms shape)) p.stack.items (λ x i. fact_in shape x refl i) f.memory.stack;
       cells_fit = cells_in shape h.cells.items p.cells.items refl f.memory.cell_count f.memory.cells;
@@ -368,11 +366,10 @@ core_fits version h points at f r =
       register_count = each_length (λ k x. FactIn (bytes_forms shape) x) registers f.regs r.regs_fit;
       registers = all_other (FactIn (bytes_forms shape)) (FactFits kind) f.regs (fact_out shape)
           (all_of_each (FactIn (bytes_forms shape)) registers f.regs r.regs_fit);
-      pair_count = each_length (λ k x. PairIn pair_forms x) letters_of_pairs f.pairs r.pairs_fit;
-      pairs = all_other (PairIn pair_forms) PairFits f.pairs pair_out (all_of_each (PairIn pair_forms) letters_of_pairs f.pairs r.pairs_fit);
-      flag_count = each_length (λ k x. BitIn (is_handler kind) x) letters_of_flags f.flags r.flags_fit;
-      flags = all_other (BitIn (is_handler kind)) (BitFits kind) f.flags (bit_out kind)
-          (all_of_each (BitIn (is_handler kind)) letters_of_flags f.flags r.flags_fit);
+      pair_count = each_length (λ k x. PairFits x) letters_of_pairs f.pairs r.pairs_fit;
+      pairs = all_of_each PairFits letters_of_pairs f.pairs r.pairs_fit;
+      flag_count = each_length (λ k x. BitFits kind x) letters_of_flags f.flags r.flags_fit;
+      flags = all_of_each (BitFits kind) letters_of_flags f.flags r.flags_fit;
       text = has_text (is_zero_or_one (get_or f.pairs 2 AnyPair)) (is_carry_and_zero_default kind f.flags) r.meant;
     }
 

@@ -2,11 +2,11 @@
 use Rattle.uz_cert_laws.proofs.Common.{◌≡◌, ◌⊎◌, inl, inr, ℕ, zero, suc, ◌+◌, ◌<◌, ◌≤◌, Bool, true, false, cond, not, ◌&&◌, ◌||◌, eqb}
 use Rattle.uz_cert_laws.proofs.Common.{ltb, List, [], ◌∷◌, ◌++◌, map, length, take, drop, get_or, decimal, codes, bytes_eq, lit<, lit≤}
 use Rattle.uz_cert_laws.proofs.Common.{refl, sym, ◌∙◌, ap, subst, append_assoc, append-nil, arith, Ok, slice_set, All-nil, All-head}
-use Rattle.uz_cert_laws.proofs.Common.{All-tail, decimal_digit, Ends, tracks, RangeFits, is_zero_or_one, is_default_flag}
+use Rattle.uz_cert_laws.proofs.Common.{PairFits, BitFits, All-tail, decimal_digit, Ends, tracks, RangeFits, is_zero_or_one, is_default_flag}
 use Rattle.uz_cert_laws.proofs.Common.{is_carry_and_zero_default, Kind, Main, Handler, Alone, Cell, Fact, Any, Between, PairFact, Bit}
-use Rattle.uz_cert_laws.proofs.Common.{Words, names_c_or_z, any_names, first_facts, default_flag, is_handler, bytes_forms, pair_forms}
+use Rattle.uz_cert_laws.proofs.Common.{Words, names_c_or_z, any_names, first_facts, default_flag, is_handler, bytes_forms}
 use Rattle.uz_cert_laws.proofs.Common.{is_flag_z, tracked_count, take_item, items_from, read_items, FactForms, Shape, Facts, numbers_from}
-use Rattle.uz_cert_laws.proofs.Common.{fact_word, pair_word, flag_word, named_items, named_place, successors_place, named_of, All}
+use Rattle.uz_cert_laws.proofs.Common.{fact_word, pair_word, flag_word, named_items, named_place, named_of, All}
 use Rattle.uz_cert_laws.proofs.Common.{AnyPair, BetweenPair, LinePair, LoopPair, letters_of_pairs, letters_of_flags, spelled}
 use Rattle.uz_cert_laws.proofs.Tests.{both_of, and_true, or_false, fine_is, fault_not, true_not, bind_ok, number_is, lt_is}
 use Rattle.uz_cert_laws.proofs.Spelled.{registers, numbered_cells, usual_fact, usual_bit, usual_cell, registers_usual, cells_usual}
@@ -14,7 +14,7 @@ use Rattle.uz_cert_laws.proofs.ItemForms.{with_pair, with_flag, PairForm, FlagFo
 use Rattle.uz_cert_laws.proofs.ItemForms.{successor, PlacesFit, cell_form, flag_letter, item_taken}
 use Rattle.uz_cert_laws.proofs.GrowingFacts.{Regular, all_items, values, are_sections, one_more}
 use Rattle.uz_cert_laws.proofs.Sections.{all_empty, Each, each_length, each_map}
-use Rattle.uz_cert_laws.proofs.Facts.{FactIn, PairIn, BitIn, part_from}
+use Rattle.uz_cert_laws.proofs.Facts.{FactIn, part_from}
 use Rattle.uz_cert_laws.proofs.Named.{say_usuals, fresh_usuals, sets_between, sets_other}
 use Rattle.uz_cert_lines.specs.declared.why.CertWhy.TheVariants as why
 
@@ -37,7 +37,7 @@ first_regs shape Handler e w =
     own_each (bytes_forms shape) 0 32 (ap (λ (k : Kind). is_handler k && not shape.plain) e ∙ ap not (w refl)) (lit≤ tt)
 first_regs shape Alone e w = each_map (λ r x. FactIn (bytes_forms shape) x) (usual_fact Alone) registers (λ r. (refl, lit< tt))
 
-first_bit : (kind : Kind) → BitIn (is_handler kind) (default_flag kind)
+first_bit : (kind : Kind) → BitFits kind (default_flag kind)
 first_bit Main = tt
 first_bit Handler = refl
 first_bit Alone = tt
@@ -79,8 +79,8 @@ first_regular shape cells h =
       fit = both_of
           (both_of (subst (λ (x : List Fact). Each (λ r x. FactIn (bytes_forms shape) x) registers x) (sym rs)
           (first_regs shape shape.kind refl h.whole)) rs)
-          (both_of (both_of ((refl, lit< tt), ((refl, lit< tt), ((refl, lit< tt), tt))) refl)
-          (both_of (both_of (each_map (λ l x. BitIn (is_handler shape.kind) x) (usual_bit shape.kind) letters_of_flags
+          (both_of (both_of (tt, (tt, (tt, tt))) refl)
+          (both_of (both_of (each_map (λ l x. BitFits shape.kind x) (usual_bit shape.kind) letters_of_flags
           (λ l. first_bit shape.kind)) refl)
           (both_of (omega arith, All-nil (FactIn (bytes_forms shape)), λ l. refl)
           (both_of (both_of (subst (λ (x : List Fact). Each (λ p x. FactIn (cell_form shape p.1) x) (numbered_cells shape.kind 0 cells) x)
@@ -147,143 +147,138 @@ z_pair_names shape f x later z e =
       | inr e ↦ ap (λ w. bytes_eq w (codes "0") || bytes_eq w (codes "1")) e
     ]
 
--- flags that are set
+-- what an item tells of the flags C and Z
 
 one_meant : (a b : Bool) → (a ≡ false) ⊎ (b ≡ false) → (a && b) ≡ false
 one_meant true b d = elim d [ inl e ↦ absurd (true_not true refl e) | inr e ↦ e ]
 one_meant false b d = refl
 
-flag_meant : (kind : Kind) (flags : List Bit) (b : ℕ) (x : Bit) → 2 ≤ length flags → is_default_flag kind x ≡ false
-    → ((b < 2) ⊎ IsMeant kind flags) → IsMeant kind (slice_set flags b x)
-flag_meant kind [] b x l n d = absurd (omega arith)
-flag_meant kind (c ∷ []) b x l n d = absurd (omega arith)
-flag_meant kind (c ∷ z ∷ rest) zero x l n d = one_meant (is_default_flag kind x) (is_default_flag kind z) (inl n)
-flag_meant kind (c ∷ z ∷ rest) (suc zero) x l n d = one_meant (is_default_flag kind c) (is_default_flag kind x) (inr n)
-flag_meant kind (c ∷ z ∷ rest) (suc (suc b)) x l n d = elim d [ inl h ↦ absurd (past b h) | inr h ↦ h ]
-  where
-    past : (b : ℕ) → suc (suc b) < 2 → ⊥
-    past b h = omega arith
+names_letter : (c : ℕ) (value : List ℕ) → (eqb c 99 || eqb c 122) ≡ false → names_c_or_z (c ∷ value) ≡ false
+names_letter c [] e = refl
+names_letter c (d ∷ cs) e = ap (λ b. b && eqb d 61) e
 
+-- the word is neither's, and they stay as they are; or it sets one of them; or it is the pair Z's, before them
+abbrev pub TellsFlags : Kind → Facts → List ℕ → Facts → Type 0
+TellsFlags kind f w more =
+    ((names_c_or_z w ≡ false) × (is_carry_and_zero_default kind more.flags ≡ is_carry_and_zero_default kind f.flags))
+    ⊎ ((names_c_or_z w ≡ true) × (f.least ≤ 36)
+    × ((2 ≤ length f.flags → IsMeant kind more.flags)
+    ⊎ ((f.least ≤ 34) × (is_carry_and_zero_default kind more.flags ≡ is_carry_and_zero_default kind f.flags))))
+
+module _ (shape : Shape) (f : Facts) (w : List ℕ) (later : List (List ℕ)) where
+  flag_tells : (b : ℕ) (x : Bit) → FlagForm shape f w later b x → TellsFlags shape.kind f w (with_flag f b x)
+  flag_tells zero x t = inr (ap names_c_or_z t.word, omega (arith, t.order), inl (λ two. first f.flags two))
+    where
+      first : (flags : List Bit) → 2 ≤ length flags → IsMeant shape.kind (slice_set flags 0 x)
+      first [] two = absurd (omega (arith, two))
+      first (c ∷ rest) two = one_meant (is_default_flag shape.kind x) _ (inl t.other)
+  flag_tells (suc zero) x t = inr (ap names_c_or_z t.word, omega (arith, t.order), inl (λ two. second f.flags two))
+    where
+      second : (flags : List Bit) → 2 ≤ length flags → IsMeant shape.kind (slice_set flags 1 x)
+      second [] two = absurd (omega (arith, two))
+      second (c ∷ []) two = absurd (omega (arith, two))
+      second (c ∷ z ∷ rest) two = one_meant (is_default_flag shape.kind c) (is_default_flag shape.kind x) (inr t.other)
+  flag_tells (suc (suc b)) x t = inl (other b t.word t.there, same f.flags)
+    where
+      same : (flags : List Bit)
+          → is_carry_and_zero_default shape.kind (slice_set flags (suc (suc b)) x) ≡ is_carry_and_zero_default shape.kind flags
+      same [] = refl
+      same (c ∷ []) = refl
+      same (c ∷ z ∷ rest) = refl
+
+      other : (b : ℕ) → w ≡ flag_letter (suc (suc b)) ∷ 61 ∷ flag_word x → suc (suc b) < 7 → names_c_or_z w ≡ false
+      other zero e l = ap names_c_or_z e
+      other (suc zero) e l = ap names_c_or_z e
+      other (suc (suc zero)) e l = ap names_c_or_z e
+      other (suc (suc (suc zero))) e l = ap names_c_or_z e
+      other (suc (suc (suc (suc zero)))) e l = ap names_c_or_z e
+      other (suc (suc (suc (suc (suc b))))) e l = absurd (omega (arith, l))
+
+  pair_tells : (k : ℕ) (x : PairFact) → PairForm shape f w later k x → TellsFlags shape.kind f w (with_pair f k x)
+  pair_tells zero x t = inl (ap names_c_or_z t.word, refl)
+  pair_tells (suc zero) x t = inl (ap names_c_or_z t.word, refl)
+  pair_tells (suc (suc zero)) x t = inr (ap names_c_or_z t.word, omega (arith, t.order), inr (omega (arith, t.order), refl))
+  pair_tells (suc (suc (suc k))) x t = absurd (omega (arith, t.there))
+
+pub tells_flags : (shape : Shape) (cells : List Cell) (f : Facts) (w : List ℕ) (later : List (List ℕ)) (more : Facts)
+    → HasForm shape cells f w later more → TellsFlags shape.kind f w more
+tells_flags shape cells f w later more (register r x t e) =
+    inl (ap names_c_or_z t.word ∙ names_letter 114 (decimal r ++ 61 ∷ fact_word x) refl, ap (λ (m : Facts). is_carry_and_zero_default shape.kind m.flags) e)
+tells_flags shape cells f w later more (pair k x t e) = subst (TellsFlags shape.kind f w) (sym e) (pair_tells shape f w later k x t)
+tells_flags shape cells f w later more (flag b x t e) = subst (TellsFlags shape.kind f w) (sym e) (flag_tells shape f w later b x t)
+tells_flags shape cells f w later more (slot x t e) =
+    inl (ap names_c_or_z t.word ∙ names_letter 115 (58 ∷ fact_word x) refl, ap (λ (m : Facts). is_carry_and_zero_default shape.kind m.flags) e)
+tells_flags shape cells f w later more (cell i c x t e) =
+    inl (ap names_c_or_z t.word ∙ names_letter 109 (decimal i ++ 61 ∷ fact_word x) refl, ap (λ (m : Facts). is_carry_and_zero_default shape.kind m.flags) e)
+tells_flags shape cells f w later more (listed v next t e) = inl (
+  sets_other named_items named_place shape f.least (named_of f) w v next refl t,
+  ap (λ (m : Facts). is_carry_and_zero_default shape.kind m.flags) e,
+)
+tells_flags shape cells f w later more (successor id t e) =
+    inl (ap names_c_or_z t.word ∙ names_letter 62 (decimal id) refl, ap (λ (m : Facts). is_carry_and_zero_default shape.kind m.flags) e)
+
+-- the pair Z, where it isn't set
 pair_other : (pairs : List PairFact) (k : ℕ) (x : PairFact) → k < 2 → get_or (slice_set pairs k x) 2 AnyPair ≡ get_or pairs 2 AnyPair
 pair_other [] k x h = refl
 pair_other (a ∷ rest) zero x h = refl
 pair_other (a ∷ []) (suc zero) x h = refl
 pair_other (a ∷ b ∷ bs) (suc zero) x h = refl
-pair_other (a ∷ rest) (suc (suc k)) x h = absurd (past k h)
-  where
-    past : (k : ℕ) → suc (suc k) < 2 → ⊥
-    past k h = omega arith
+pair_other (a ∷ rest) (suc (suc k)) x h = absurd (omega (arith, h))
 
 pair_third : (pairs : List PairFact) (x : PairFact) → 3 ≤ length pairs → get_or (slice_set pairs 2 x) 2 AnyPair ≡ x
-pair_third [] x h = absurd (omega arith)
-pair_third (a ∷ []) x h = absurd (omega arith)
-pair_third (a ∷ b ∷ []) x h = absurd (omega arith)
+pair_third [] x h = absurd (omega (arith, h))
+pair_third (a ∷ []) x h = absurd (omega (arith, h))
+pair_third (a ∷ b ∷ []) x h = absurd (omega (arith, h))
 pair_third (a ∷ b ∷ c ∷ rest) x h = refl
 
--- words that aren't of C or Z
-
-pub names_letter : (c : ℕ) (value : List ℕ) → (eqb c 99 || eqb c 122) ≡ false → names_c_or_z (c ∷ value) ≡ false
-names_letter c [] e = refl
-names_letter c (d ∷ cs) e = ap (λ b. b && eqb d 61) e
-
-pub flag_other_name : (b : ℕ) (x : Bit) (w : List ℕ) → w ≡ flag_letter b ∷ 61 ∷ flag_word x → 2 ≤ b → b < 7 → names_c_or_z w ≡ false
-flag_other_name zero x w e l s = absurd (omega arith)
-flag_other_name (suc zero) x w e l s = absurd (omega arith)
-flag_other_name (suc (suc zero)) x w e l s = ap names_c_or_z e
-flag_other_name (suc (suc (suc zero))) x w e l s = ap names_c_or_z e
-flag_other_name (suc (suc (suc (suc zero)))) x w e l s = ap names_c_or_z e
-flag_other_name (suc (suc (suc (suc (suc zero))))) x w e l s = ap names_c_or_z e
-flag_other_name (suc (suc (suc (suc (suc (suc zero)))))) x w e l s = ap names_c_or_z e
-flag_other_name (suc (suc (suc (suc (suc (suc (suc b))))))) x w e l s = absurd (past b s)
-  where
-    past : (b : ℕ) → suc (suc (suc (suc (suc (suc (suc b)))))) < 7 → ⊥
-    past b h = omega arith
-
-names_later : (w : List ℕ) (ws : List (List ℕ)) → names_c_or_z w ≡ false → any_names (w ∷ ws) ≡ true → any_names ws ≡ true
-names_later w ws e h = sym (ap (λ b. b || any_names ws) e) ∙ h
-
-module _ (shape : Shape) (cells : List Cell) (f : Facts) (h : Regular shape cells f) where
-  -- an item that comes before the flags: Z isn't said yet, or its flags are
-  early : (w : List ℕ) (ws : List (List ℕ)) (pairs : List PairFact) (least : ℕ) → f.least < 35 → get_or pairs 2 AnyPair ≡ get_or f.pairs 2
-      AnyPair
-      → ZFollows shape.kind f (w ∷ ws) → is_zero_or_one (get_or pairs 2 AnyPair) ≡ true → IsMeant shape.kind f.flags
-      ⊎ ((any_names ws ≡ true) × (35 ≤ least))
-  early w ws pairs least l same z one =
-      elim (z (sym (ap is_zero_or_one same) ∙ one)) [ inl m ↦ inl m | inr m ↦ absurd (omega (arith, m.1)) ]
-
-  -- one that comes after them and isn't of C or Z
-  late : (w : List ℕ) (ws : List (List ℕ)) (least : ℕ) → f.least ≤ least → names_c_or_z w ≡ false
-      → ZFollows shape.kind f (w ∷ ws) → is_zero_or_one (get_or f.pairs 2 AnyPair) ≡ true → IsMeant shape.kind f.flags
-      ⊎ ((any_names ws ≡ true) × (35 ≤ least))
-  late w ws least l other z one =
-      elim (z one) [ inl m ↦ inl m | inr m ↦ inr (names_later w ws other m.0, omega (arith, m.1)) ]
-
-  z_pair : (k : ℕ) (x : PairFact) (w : List ℕ) (ws : List (List ℕ)) → PairForm shape f w ws k x → ZFollows shape.kind f (w ∷ ws)
-      → ZFollows shape.kind (with_pair f k x) ws
-  z_pair k x w ws t z one = by_place (decide k t.there)
-    where
-      three : 3 ≤ length f.pairs
-      three = omega (arith, each_length (λ l x. PairIn pair_forms x) letters_of_pairs f.pairs h.fit.1.0.0)
-
-      decide : (k : ℕ) → k < 3 → (k < 2) ⊎ (k ≡ 2)
-      decide zero l = inl (lit< tt)
-      decide (suc zero) l = inl (lit< tt)
-      decide (suc (suc zero)) l = inr refl
-      decide (suc (suc (suc k))) l = absurd (omega arith)
-
-      by_place : (k < 2) ⊎ (k ≡ 2) → IsMeant shape.kind f.flags ⊎ ((any_names ws ≡ true) × (35 ≤ 33 + k))
-      by_place d = elim d [
-        | inl l ↦ early w ws (slice_set f.pairs k x) (33 + k) (omega (arith, t.order)) (pair_other f.pairs k x l) z one
-        | inr e ↦ inr (
-          z_pair_names shape f x ws
-              (sym (ap is_zero_or_one (ap (λ n. get_or (slice_set f.pairs n x) 2 AnyPair) e ∙ pair_third f.pairs x three)) ∙ one)
-              (t.meant e),
-          omega (arith, e),
-        )
-      ]
-
-  z_flag : (b : ℕ) (x : Bit) (w : List ℕ) (ws : List (List ℕ)) → FlagForm shape f w ws b x → ZFollows shape.kind f (w ∷ ws)
-      → ZFollows shape.kind (with_flag f b x) ws
-  z_flag b x w ws t z one = by_place (decide b)
+module _ (shape : Shape) (cells : List Cell) (f : Facts) (h : Regular shape cells f) (w : List ℕ) (ws : List (List ℕ)) where
+  -- an item that leaves the pair Z as it is
+  follows : (more : Facts) → HasForm shape cells f w ws more → get_or more.pairs 2 AnyPair ≡ get_or f.pairs 2 AnyPair → f.least ≤ more.least
+      → ZFollows shape.kind f (w ∷ ws) → ZFollows shape.kind more ws
+  follows more t same rise z one = by_flags (tells_flags shape cells f w ws more t) (z (sym (ap is_zero_or_one same) ∙ one))
     where
       two : 2 ≤ length f.flags
-      two = omega (arith, each_length (λ l x. BitIn (is_handler shape.kind) x) letters_of_flags f.flags h.fit.1.1.0.0)
+      two = omega (arith, each_length (λ l x. BitFits shape.kind x) letters_of_flags f.flags h.fit.1.1.0.0)
 
-      decide : (b : ℕ) → (b < 2) ⊎ (2 ≤ b)
-      decide zero = inl (lit< tt)
-      decide (suc zero) = inl (lit< tt)
-      decide (suc (suc b)) = inr (omega arith)
-
-      by_place : (b < 2) ⊎ (2 ≤ b) → IsMeant shape.kind (slice_set f.flags b x) ⊎ ((any_names ws ≡ true) × (35 ≤ 36 + b))
-      by_place d = elim d [
-        | inl l ↦ inl (flag_meant shape.kind f.flags b x two t.other (inl l))
-        | inr l ↦ elim (z one) [
-          | inl m ↦ inl (flag_meant shape.kind f.flags b x two t.other (inr m))
-          | inr m ↦ inr (names_later w ws (flag_other_name b x w t.word l t.there) m.0, omega arith)
-        ]
+      by_flags : TellsFlags shape.kind f w more → IsMeant shape.kind f.flags ⊎ ((any_names (w ∷ ws) ≡ true) × (35 ≤ f.least))
+          → IsMeant shape.kind more.flags ⊎ ((any_names ws ≡ true) × (35 ≤ more.least))
+      by_flags (inl o) (inl m) = inl (o.1 ∙ m)
+      by_flags (inl o) (inr m) = inr (sym (ap (λ b. b || any_names ws) o.0) ∙ m.0, omega (arith, m.1, rise))
+      by_flags (inr o) m = elim o.2 [
+        | inl set ↦ inl (set two)
+        | inr q ↦ elim m [ inl n ↦ inl (q.1 ∙ n) | inr n ↦ absurd (omega (arith, q.0, n.1)) ]
       ]
 
-  z_follows : (w : List ℕ) (ws : List (List ℕ)) (more : Facts) → HasForm shape cells f w ws more → ZFollows shape.kind f (w ∷ ws)
-      → ZFollows shape.kind more ws
-  z_follows w ws more (register r x t e) z =
-      let order : f.least ≤ r = t.order in
-      let there : r < 32 = t.there in
-      subst (λ (a : Facts). ZFollows shape.kind a ws) (sym e) (early w ws f.pairs (r + 1) (omega arith) refl z)
-  z_follows w ws more (pair k x t e) z = subst (λ (a : Facts). ZFollows shape.kind a ws) (sym e) (z_pair k x w ws t z)
-  z_follows w ws more (flag b x t e) z = subst (λ (a : Facts). ZFollows shape.kind a ws) (sym e) (z_flag b x w ws t z)
-  z_follows w ws more (slot x t e) z =
-      subst (λ (a : Facts). ZFollows shape.kind a ws) (sym e)
-      (late w ws 42 t.order (ap names_c_or_z t.word ∙ names_letter 115 (58 ∷ fact_word x) refl) z)
-  z_follows w ws more (cell i c x t e) z =
-      subst (λ (a : Facts). ZFollows shape.kind a ws) (sym e)
-      (late w ws (44 + i) (omega (arith, t.order)) (ap names_c_or_z t.word ∙ names_letter 109 (decimal i ++ 61 ∷ fact_word x) refl) z)
-  z_follows w ws more (listed v next t e) z =
-      subst (λ (a : Facts). ZFollows shape.kind a ws) (sym e)
-      (late w ws next (omega (arith, (sets_between named_items named_place shape f.least (named_of f) w v next t).0))
-      (sets_other named_items named_place shape f.least (named_of f) w v next refl t) z)
-  z_follows w ws more (successor id t e) z =
-      subst (λ (a : Facts). ZFollows shape.kind a ws) (sym e)
-      (late w ws successors_place h.few (ap names_c_or_z t.word ∙ names_letter 62 (decimal id) refl) z)
+  abbrev pair_z : Facts → PairFact
+  pair_z m = get_or m.pairs 2 AnyPair
+
+  z_follows : (more : Facts) → HasForm shape cells f w ws more → ZFollows shape.kind f (w ∷ ws) → ZFollows shape.kind more ws
+  z_follows more (pair k x t e) z = by_place k t e (t.there)
+    where
+      three : 3 ≤ length f.pairs
+      three = omega (arith, each_length (λ l x. PairFits x) letters_of_pairs f.pairs h.fit.1.0.0)
+
+      other : (k : ℕ) → k < 2 → PairForm shape f w ws k x → more ≡ with_pair f k x → ZFollows shape.kind more ws
+      other k l t e =
+          follows more (pair k x t e) (ap pair_z e ∙ pair_other f.pairs k x l) (omega (arith, t.order, ap (λ (m : Facts). m.least) e)) z
+
+      by_place : (k : ℕ) → PairForm shape f w ws k x → more ≡ with_pair f k x → k < 3 → ZFollows shape.kind more ws
+      by_place zero t e l = other 0 (lit< tt) t e
+      by_place (suc zero) t e l = other 1 (lit< tt) t e
+      by_place (suc (suc zero)) t e l = λ one. inr (
+        z_pair_names shape f x ws (sym (ap is_zero_or_one (ap pair_z e ∙ pair_third f.pairs x three)) ∙ one) (t.meant refl),
+        omega (arith, ap (λ (m : Facts). m.least) e),
+      )
+      by_place (suc (suc (suc k))) t e l = absurd (omega (arith, l))
+  z_follows more (register r x t e) z =
+      follows more (register r x t e) (ap pair_z e) (omega (arith, t.order, ap (λ (m : Facts). m.least) e)) z
+  z_follows more (flag b x t e) z = follows more (flag b x t e) (ap pair_z e) (omega (arith, t.order, ap (λ (m : Facts). m.least) e)) z
+  z_follows more (slot x t e) z = follows more (slot x t e) (ap pair_z e) (omega (arith, t.order, ap (λ (m : Facts). m.least) e)) z
+  z_follows more (cell i c x t e) z = follows more (cell i c x t e) (ap pair_z e) (omega (arith, t.order, ap (λ (m : Facts). m.least) e)) z
+  z_follows more (listed v next t e) z =
+      let between = sets_between named_items named_place shape f.least (named_of f) w v next t in
+      follows more (listed v next t e) (ap pair_z e) (omega (arith, between.0, ap (λ (m : Facts). m.least) e)) z
+  z_follows more (successor id t e) z = follows more (successor id t e) (ap pair_z e) (omega (arith, h.few, ap (λ (m : Facts). m.least) e)) z
 
 -- all items
 

@@ -121,55 +121,46 @@ ordered_lower : {K : Type 0} (I : K → ℕ → Type 0) (place : K → ℕ → �
 ordered_lower I place n low least limit [] h o = omega arith
 ordered_lower I place n low least limit (k ∷ ks) h o = (o.0, omega (arith, h, o.1), o.2)
 
--- Reads least values words: reading goes on so, where these values stand, and items are due from the place least on.
--- Where each item that isn't a default is read, all are read, and the default stands where there was none.
-module _ {K A : Type 0} (o : OptionList K A) (place : K → ℕ → ℕ) (I : K → ℕ → Type 0) (R : K → A → Type 0)
-    (Reads : ℕ → List A → List (List ℕ) → Type 0)
+-- Reads least values: words say the rest where these values stand, and items are due from the place least on. Where the item of a
+-- value that isn't a default comes before such words, they say the rest too (step). So all are read, and the default stands where
+-- there was none.
+module _ {K A : Type 0} (o : OptionList K A) (place : K → ℕ → ℕ) (I : K → ℕ → Type 0) (R : K → A → Type 0) (Reads : ℕ → List A → Type 0)
     (is : (k : K) (x : A) → R k x → o.is_usual k x ≡ true → x ≡ o.usual k)
-    (step : (front back : List A) (k : K) (x : A) (least : ℕ) (words : List (List ℕ)) → I k (length front) → R k x
-    → o.is_usual k x ≡ false → least ≤ place k (length front) → Reads (place k (length front) + 1) (front ++ x ∷ back) words
-    → Reads least (front ++ o.usual k ∷ back) (o.word k x ∷ words)) where
+    (step : (front back : List A) (k : K) (x : A) (least : ℕ) → I k (length front) → R k x → o.is_usual k x ≡ false
+    → least ≤ place k (length front) → Reads (place k (length front) + 1) (front ++ x ∷ back) → Reads least (front ++ o.usual k ∷ back)) where
   abbrev Again : List K → List A → Type 0
   Again ks xs =
-      (front : List A) (least limit : ℕ) (later : List (List ℕ)) → Ordered I place (length front) least limit ks
-      → ((low : ℕ) → low ≤ limit → Reads low (front ++ xs) later)
-      → Reads least (front ++ map o.usual ks) (options o.is_usual o.word ks xs ++ later)
+      (front : List A) (least limit : ℕ) → Ordered I place (length front) least limit ks
+      → ((low : ℕ) → low ≤ limit → Reads low (front ++ xs)) → Reads least (front ++ map o.usual ks)
 
   one_more : (k : K) (ks : List K) (x : A) (xs : List A) → R k x → Again ks xs → Again (k ∷ ks) (x ∷ xs)
-  one_more k ks x xs r again front least limit later b go = by_default (o.is_usual k x) refl
+  one_more k ks x xs r again front least limit b go = by_default (o.is_usual k x) refl
     where
       longer : (y : A) → length (front ++ y ∷ []) ≡ suc (length front)
       longer y = length-append front (y ∷ []) ∙ add-one (length front)
 
-      from : (y : A) (low : ℕ) → low ≤ place k (length front) + 1 → x ≡ y
-          → Reads low (front ++ y ∷ map o.usual ks) (options o.is_usual o.word ks xs ++ later)
+      from : (y : A) (low : ℕ) → low ≤ place k (length front) + 1 → x ≡ y → Reads low (front ++ y ∷ map o.usual ks)
       from y low l e =
-          subst (λ (ys : List A). Reads low ys (options o.is_usual o.word ks xs ++ later)) (append_assoc front (y ∷ []) (map o.usual ks))
-          (again (front ++ y ∷ []) low limit later
+          subst (Reads low) (append_assoc front (y ∷ []) (map o.usual ks))
+          (again (front ++ y ∷ []) low limit
           (ordered_lower I place (length (front ++ y ∷ [])) low (place k (length front) + 1) limit ks l
           (subst (λ n. Ordered I place n (place k (length front) + 1) limit ks) (sym (longer y)) b.2))
-          (λ n m. subst (λ (ys : List A). Reads n ys later)
-          (ap (λ (z : A). front ++ z ∷ xs) e ∙ sym (append_assoc front (y ∷ []) xs)) (go n m)))
+          (λ n m. subst (Reads n) (ap (λ (z : A). front ++ z ∷ xs) e ∙ sym (append_assoc front (y ∷ []) xs)) (go n m)))
 
       by_default : (t : Bool) → o.is_usual k x ≡ t → Reads least (front ++ o.usual k ∷ map o.usual ks)
-          (unless t (o.word k x) (options o.is_usual o.word ks xs) ++ later)
       by_default true t = from (o.usual k) least (omega (arith, b.1)) (is k x r t)
       by_default false t =
-          step front (map o.usual ks) k x least (options o.is_usual o.word ks xs ++ later) b.0 r t b.1
-          (from x (place k (length front) + 1) (omega arith) refl)
+          step front (map o.usual ks) k x least b.0 r t b.1 (from x (place k (length front) + 1) (omega arith) refl)
 
   all_more : (ks : List K) (xs : List A) → Each R ks xs → Again ks xs
-  all_more [] [] h = λ front least limit later b go. go least b
+  all_more [] [] h = λ front least limit b go. go least b
   all_more [] (x ∷ xs) h = absurd h
   all_more (k ∷ ks) [] h = absurd h
   all_more (k ∷ ks) (x ∷ xs) h = one_more k ks x xs h.0 (all_more ks xs h.1)
 
-  pub options_read : AreOptions o → (xs : List A) (least limit : ℕ) (later : List (List ℕ)) → Each R o.keys xs
-      → Ordered I place 0 least limit o.keys → ((low : ℕ) → low ≤ limit → Reads low xs later)
-      → Reads least (map o.usual o.keys) (o.spelled xs ++ later)
-  options_read are xs least limit later h b go =
-      subst (λ ws. Reads least (map o.usual o.keys) (ws ++ later)) (sym (are.words_are xs (each_length R o.keys xs h)))
-      (all_more o.keys xs h [] least limit later b go)
+  pub options_read : (xs : List A) (least limit : ℕ) → Each R o.keys xs → Ordered I place 0 least limit o.keys
+      → ((low : ℕ) → low ≤ limit → Reads low xs) → Reads least (map o.usual o.keys)
+  options_read xs least limit h b go = all_more o.keys xs h [] least limit b go
 
 pub record Section (X : Type 0) : Type 1 where
   pub words : X → List (List ℕ)

@@ -1,28 +1,54 @@
 -- All items of a line: what is spelled of facts is read as these facts.
+use Rattle.uz_cert_laws.proofs.Tests.{three_of}
+use Rattle.uz_cert_laws.proofs.Tests.{same_number}
+use Rattle.uz_cert_laws.proofs.Tests.{both_true}
+use Rattle.uz_cert_laws.proofs.Common.{ends}
+use Rattle.uz_cert_laws.proofs.Tests.{given}
+use Rattle.uz_cert_laws.proofs.ReadItems.{tells_flags}
+use Rattle.uz_cert_laws.proofs.Common.{Main, Handler, Alone}
+use Rattle.uz_cert_laws.proofs.Tests.{fine_is}
+use Rattle.uz_cert_laws.proofs.ItemForms.{form_takes}
+use Rattle.uz_cert_laws.proofs.Common.{inr}
+use Rattle.uz_cert_laws.proofs.Common.{CertWhy}
+use Rattle.uz_cert_laws.proofs.Common.{inl}
+use Rattle.uz_cert_laws.proofs.Common.{Result}
+use Rattle.uz_cert_laws.proofs.ReadItems.{TellsFlags}
+use Rattle.uz_cert_laws.proofs.ItemForms.{pair}
+use Rattle.uz_cert_laws.proofs.ItemForms.{listed}
+use Rattle.uz_cert_laws.proofs.ItemForms.{flag}
+use Rattle.uz_cert_laws.proofs.Common.{pair_of}
+use Rattle.uz_cert_laws.proofs.Common.{line}
+use Rattle.uz_cert_laws.proofs.ReadItems.{items_only}
+use Rattle.uz_cert_laws.proofs.Named.{sets_between}
+use Rattle.uz_cert_laws.proofs.ItemForms.{successor}
+use Rattle.uz_cert_laws.proofs.ItemForms.{slot}
+use Rattle.uz_cert_laws.proofs.ItemForms.{register}
+use Rattle.uz_cert_laws.proofs.ItemForms.{cell}
+use Rattle.uz_cert_laws.proofs.ItemForms.{HasForm}
+use Rattle.uz_cert_laws.proofs.Common.{is_carry_and_zero_default}
+use Rattle.uz_cert_laws.proofs.Common.{PairFits}
+use Rattle.uz_cert_laws.proofs.Common.{BitFits}
 use Rattle.uz_cert_laws.proofs.Common.{◌≡◌, ℕ, zero, suc, ◌+◌, ◌<◌, ◌≤◌, Bool, true, false, cond, not, ◌&&◌, ◌||◌, eqb, leb, ltb, List}
 use Rattle.uz_cert_laws.proofs.Common.{[], ◌∷◌, ◌++◌, map, length, take, get_or, decimal, codes, bytes_eq, lit<, lit≤, refl, sym, ◌∙◌, ap}
 use Rattle.uz_cert_laws.proofs.Common.{subst, append_assoc, append-nil, add-one, length-append, arith, Some, Ok, Err, slice_get}
 use Rattle.uz_cert_laws.proofs.Common.{slice_set, All-head, All-tail, decimal_digit, rises_from, rises, tracks, is_zero_or_one}
 use Rattle.uz_cert_laws.proofs.Common.{is_default_flag, Kind, Cell, Fact, PairFact, Bit, Zero, One, Free, raw_of, range, one_number}
-use Rattle.uz_cert_laws.proofs.Common.{is_default, is_any_pair, first_facts, is_handler, bytes_forms, pair_forms, tracked_count}
+use Rattle.uz_cert_laws.proofs.Common.{is_default, is_any_pair, first_facts, bytes_forms, pair_forms, tracked_count}
 use Rattle.uz_cert_laws.proofs.Common.{names_c_or_z, any_names, tracked_before, is_flag_z, take_item, items_from, read_items, Raw, Shape}
-use Rattle.uz_cert_laws.proofs.Common.{Facts, numbers_from, register_item, pair_item, flag_item, options, unless, fact_word, pair_word}
-use Rattle.uz_cert_laws.proofs.Common.{flag_word, pair_items, flag_items, slot_items, cell_items, listed_items, successor_items}
+use Rattle.uz_cert_laws.proofs.Common.{Facts, numbers_from, register_item, pair_item, flag_item, fact_word, pair_word}
+use Rattle.uz_cert_laws.proofs.Common.{flag_word}
 use Rattle.uz_cert_laws.proofs.Common.{named_items, named_place, successors_place, NamedValues, named_of, with_named, All, AnyPair}
-use Rattle.uz_cert_laws.proofs.Common.{BetweenPair, LinePair, LoopPair, OldBit, letters_of_pairs, letters_of_flags, spelled}
-use Rattle.uz_cert_laws.specs.Spells.{listed_and_next}
-use Rattle.uz_cert_laws.proofs.Named.{or_second, Say, usuals, listed_other, listed_read}
-use Rattle.uz_cert_laws.proofs.Tests.{and_true, or_false, fine, fault_not, true_not, refuted, neither, then, le_is, number_is, word_is}
+use Rattle.uz_cert_laws.proofs.Common.{BetweenPair, OldBit, letters_of_pairs, letters_of_flags, spelled}
+use Rattle.uz_cert_laws.proofs.Named.{or_second, Say, usuals, listed_read}
+use Rattle.uz_cert_laws.proofs.Tests.{and_true, or_false, fine, fault_not, true_not, refuted, neither, then, le_is, word_is}
 use Rattle.uz_cert_laws.proofs.Tests.{is_lt, is_not_lt}
-use Rattle.uz_cert_laws.proofs.Facts.{FactIn, PairIn, BitIn, raw_by, pair_raw, pair_so, one_raw}
+use Rattle.uz_cert_laws.proofs.Facts.{FactIn, pair_so, one_raw}
 use Rattle.uz_cert_laws.proofs.Spelled.{pair_usual_only, registers, numbered_cells, in_range, cell_word, usual_fact, usual_pair}
-use Rattle.uz_cert_laws.proofs.Spelled.{usual_bit, usual_cell, cells_are, registers_usual, cells_usual, register_only, flag_usual_only}
+use Rattle.uz_cert_laws.proofs.Spelled.{usual_bit, usual_cell, registers_usual, cells_usual, register_only, flag_usual_only}
 use Rattle.uz_cert_laws.proofs.Spelled.{range_only_usual}
-use Rattle.uz_cert_laws.proofs.ItemForms.{with_register, with_pair, with_flag, with_cell, cell_form, pair_letter, flag_letter}
-use Rattle.uz_cert_laws.proofs.ItemForms.{register_takes, pair_takes, flag_takes, slot_takes, cell_takes, name_takes, successor_takes}
-use Rattle.uz_cert_laws.proofs.GrowingFacts.{registers_list, pairs_list, flags_list, cells_list, registers_options, pairs_options}
-use Rattle.uz_cert_laws.proofs.GrowingFacts.{flags_options, cells_options}
-use Rattle.uz_cert_laws.proofs.ReadItems.{ShapeFits, IsMeant, names_letter, flag_other_name}
+use Rattle.uz_cert_laws.proofs.ItemForms.{cell_form, pair_letter, flag_letter}
+use Rattle.uz_cert_laws.proofs.GrowingFacts.{registers_list, pairs_list, flags_list, cells_list}
+use Rattle.uz_cert_laws.proofs.ReadItems.{ShapeFits, IsMeant}
 use Rattle.uz_cert_laws.proofs.Sections.{Each, Ordered, options_read}
 use Rattle.uz_cert_lines.specs.declared.values.Raw.TheVariants as raw
 use Rattle.uz_cert_lines.specs.declared.why.CertWhy.TheVariants as why
@@ -56,56 +82,6 @@ count_push kind (p ∷ pre) x = by_own (tracks kind p.owner) (tracks kind x.owne
     by_own false true h = h
     by_own false false h = h
 
--- words that aren't of C or Z
-
-names_append : (xs ys : List (List ℕ)) → any_names xs ≡ false → any_names ys ≡ false → any_names (xs ++ ys) ≡ false
-names_append [] ys e f = f
-names_append (w ∷ ws) ys e f =
-    let two = or_false (names_c_or_z w) (any_names ws) e in
-    neither (names_c_or_z w) (any_names (ws ++ ys)) two.0 (names_append ws ys two.1 f)
-
-names_map : {A : Type 0} (f : A → List ℕ) (xs : List A) → ((x : A) → names_c_or_z (f x) ≡ false) → any_names (map f xs) ≡ false
-names_map f [] h = refl
-names_map f (x ∷ xs) h = neither (names_c_or_z (f x)) (any_names (map f xs)) (h x) (names_map f xs h)
-
-names_unless : (t : Bool) (w : List ℕ) (ws : List (List ℕ)) → names_c_or_z w ≡ false → any_names ws ≡ false
-    → any_names (unless t w ws) ≡ false
-names_unless true w ws e f = f
-names_unless false w ws e f = neither (names_c_or_z w) (any_names ws) e f
-
-names_cells : (ks : List (ℕ × Cell)) (fs : List Fact) → any_names (options in_range cell_word ks fs) ≡ false
-names_cells [] fs = refl
-names_cells (k ∷ ks) [] = refl
-names_cells (k ∷ ks) (f ∷ fs) =
-    names_unless (in_range k f) (cell_word k f) (options in_range cell_word ks fs) (names_letter 109 (decimal k.0 ++ 61 ∷ fact_word f) refl)
-    (names_cells ks fs)
-
--- the words after the flags
-abbrev after_flags : Kind → List Cell → Facts → List (List ℕ)
-after_flags kind cells f = slot_items f.stack.items ++ (cell_items kind 0 cells f.cells.items ++ listed_and_next f)
-
-no_names_after : (kind : Kind) (cells : List Cell) (f : Facts) → any_names (after_flags kind cells f) ≡ false
-no_names_after kind cells f =
-    names_append (slot_items f.stack.items) (cell_items kind 0 cells f.cells.items ++ listed_and_next f)
-    (names_map (λ x. codes "s:" ++ fact_word x) f.stack.items (λ x. names_letter 115 (58 ∷ fact_word x) refl))
-    (names_append (cell_items kind 0 cells f.cells.items) (listed_and_next f)
-    (ap any_names (cells_are kind 0 cells f.cells.items) ∙ names_cells (numbered_cells kind 0 cells) f.cells.items)
-    (names_append (listed_items named_items (named_of f)) (successor_items f.next.items) (listed_other named_items (named_of f) refl)
-    (names_map (λ id. 62 ∷ decimal id) f.next.items (λ id. names_letter 62 (decimal id) refl))))
-
--- where C or Z is said, a word for it comes
-names_said : (kind : Kind) (R : Bit → Type 0) (bs : List Bit) (later : List (List ℕ)) → Each (λ l x. R x) letters_of_flags bs
-    → IsMeant kind bs → any_names (flag_items kind letters_of_flags bs ++ later) ≡ true
-names_said kind R [] later f m = absurd f
-names_said kind R (c ∷ []) later f m = absurd f.1
-names_said kind R (c ∷ z ∷ bs) later f m = by_tests (is_default_flag kind c) (is_default_flag kind z) m
-  where
-    by_tests : (t u : Bool) → (t && u) ≡ false
-        → any_names (unless t (flag_item 99 c) (unless u (flag_item 122 z) (flag_items kind (codes "nvsht") bs)) ++ later) ≡ true
-    by_tests true true e = absurd (true_not true refl e)
-    by_tests true false e = refl
-    by_tests false u e = refl
-
 -- the flag Z
 
 flag_z_so : (shape : Shape) (f : Facts) (x : Bit) (later : List (List ℕ)) → any_names later ≡ false → is_flag_z shape f (flag_word x)
@@ -116,9 +92,6 @@ flag_z_so shape f Free later e = or_second (shape.plain || ltb 35 f.least) true 
 flag_z_so shape f OldBit later e = or_second (shape.plain || ltb 35 f.least) true refl
 
 -- the pair Z
-
-raw_same : (a b : Raw) → fine a ≡ fine b → a ≡ b
-raw_same a b e = cc
 
 no_mark : raw_of pair_forms (codes "?") ≡ Err why.Word
 unfolding raw_of range one_number
@@ -134,20 +107,8 @@ zero_raw = ap (raw_of pair_forms) (sym (decimal_digit 0 (lit< tt))) ∙ one_raw 
 one_raw_word : raw_of pair_forms (codes "1") ≡ Ok (raw.One 1)
 one_raw_word = ap (raw_of pair_forms) (sym (decimal_digit 1 (lit< tt))) ∙ one_raw pair_forms 1 (lit≤ tt) (lit≤ tt, lit< tt)
 
-is_one_number : (x : PairFact) (n : ℕ) → n < 2 → pair_raw x ≡ raw.One n → is_zero_or_one x ≡ true
-is_one_number AnyPair n l e = absurd cc
-is_one_number (LinePair a b) n l e = absurd cc
-is_one_number (LoopPair a b) n l e = absurd cc
-is_one_number (BetweenPair x) n l e = by_single (eqb x.lo x.hi) refl e
-  where
-    by_single : (t : Bool) → eqb x.lo x.hi ≡ t → raw_by false t x ≡ raw.One n → (t && ltb x.hi 2) ≡ true
-    by_single true s e =
-        let same : x.lo ≡ n = cc in
-        is_lt x.hi 2 (omega (arith, same, l, number_is x.lo x.hi s))
-    by_single false s e = absurd cc
-
 -- a pair's word names the flag Z only where the pair is exactly 0 or 1
-not_flag_z : (shape : Shape) (f : Facts) (x : PairFact) (later : List (List ℕ)) → shape.plain ≡ false → f.least ≤ 34 → PairIn pair_forms x
+not_flag_z : (shape : Shape) (f : Facts) (x : PairFact) (later : List (List ℕ)) → shape.plain ≡ false → f.least ≤ 34 → PairFits x
     → (is_zero_or_one x ≡ true → any_names later ≡ true) → is_flag_z shape f (pair_word x) later ≡ false
 not_flag_z shape f x later p l i z =
     neither (shape.plain || ltb 35 f.least) _
@@ -156,19 +117,22 @@ not_flag_z shape f x later p l i z =
     (neither (bytes_eq (pair_word x) (codes "?")) (bytes_eq (pair_word x) (codes "o")) (other (codes "?") no_mark) (other (codes "o") no_old))
     (digit (bytes_eq (pair_word x) (codes "0")) (bytes_eq (pair_word x) (codes "1")) refl refl))
   where
-    reads : raw_of pair_forms (pair_word x) ≡ Ok (pair_raw x)
-    reads = (pair_so pair_forms x (lit≤ tt) i).0
+    reads : (r : Raw) × (raw_of pair_forms (pair_word x) ≡ Ok r) × (pair_of r ≡ Ok x)
+    reads = pair_so x i
+
+    -- what a word is read as, where it is the pair's
+    same : (w : List ℕ) (r : Result Raw CertWhy) → raw_of pair_forms w ≡ r → bytes_eq (pair_word x) w ≡ true → r ≡ Ok reads.0
+    same w r g e = sym g ∙ ap (raw_of pair_forms) (sym (word_is (pair_word x) w e)) ∙ reads.1
 
     other : (w : List ℕ) → raw_of pair_forms w ≡ Err why.Word → bytes_eq (pair_word x) w ≡ false
-    other w none =
-        refuted (bytes_eq (pair_word x) w)
-        (λ e. fault_not why.Word (pair_raw x) (sym none ∙ ap (raw_of pair_forms) (sym (word_is (pair_word x) w e)) ∙ reads))
+    other w none = refuted (bytes_eq (pair_word x) w) (λ e. fault_not why.Word reads.0 (same w (Err why.Word) none e))
 
     named : (n : ℕ) (w : List ℕ) → n < 2 → raw_of pair_forms w ≡ Ok (raw.One n) → bytes_eq (pair_word x) w ≡ true
         → not (any_names later) ≡ false
     named n w l g e =
-        ap not (z (is_one_number x n l (raw_same (pair_raw x) (raw.One n) (sym reads ∙ ap (raw_of pair_forms) (word_is (pair_word x) w e)
-        ∙ g))))
+        let is = subst (λ (r : Raw). pair_of r ≡ Ok x) (sym (fine_is (raw.One n) reads.0 (same w (Ok (raw.One n)) g e))) reads.2 in
+        ap not (z (given (λ y. is_zero_or_one y ≡ true) (BetweenPair (ends n n)) x is (both_true (eqb n n) (ltb n 2) (same_number n)
+        (is_lt n 2 l))))
 
     digit : (t u : Bool) → bytes_eq (pair_word x) (codes "0") ≡ t → bytes_eq (pair_word x) (codes "1") ≡ u
         → ((t || u) && not (any_names later)) ≡ false
@@ -179,8 +143,8 @@ not_flag_z shape f x later p l i z =
 -- what may be said of a state
 pub record FactsFit (shape : Shape) (cells : List Cell) (f : Facts) : Type 0 where
   pub regs_fit : Each (λ r x. FactIn (bytes_forms shape) x) registers f.regs
-  pub pairs_fit : Each (λ l x. PairIn pair_forms x) letters_of_pairs f.pairs
-  pub flags_fit : Each (λ l x. BitIn (is_handler shape.kind) x) letters_of_flags f.flags
+  pub pairs_fit : Each (λ l x. PairFits x) letters_of_pairs f.pairs
+  pub flags_fit : Each (λ l x. BitFits shape.kind x) letters_of_flags f.flags
   pub slots_fit : length f.stack.items ≤ shape.depth
   pub stack_fit : All (FactIn (bytes_forms shape)) f.stack.items
   pub cells_fit : Each (λ p x. FactIn (cell_form shape p.1) x) (numbered_cells shape.kind 0 cells) f.cells.items
@@ -190,47 +154,75 @@ pub record FactsFit (shape : Shape) (cells : List Cell) (f : Facts) : Type 0 whe
   pub plain_fit : shape.plain ≡ true → f.pairs ≡ AnyPair ∷ AnyPair ∷ AnyPair ∷ []
   pub meant : is_zero_or_one (get_or f.pairs 2 AnyPair) ≡ true → IsMeant shape.kind f.flags
 
--- items from the last section to the first
+-- Items from the last section to the first. Of the words it is enough that they are there: only what is spelled of facts is read as
+-- them, so in the end they are that.
+record Done (shape : Shape) (cells : List Cell) (g f : Facts) : Type 0 where
+  words : List (List ℕ)
+  least : ℕ
+  after : ℕ
+  -- these words say the rest, and with it all
+  read : items_from shape cells true f words ≡ Ok (record g { least = least; after = after })
+  -- none of them is for the flags C and Z where these are past, and none sets them unless one is
+  past : 37 ≤ f.least → any_names words ≡ false
+  set : any_names words ≡ false → is_carry_and_zero_default shape.kind f.flags ≡ is_carry_and_zero_default shape.kind g.flags
 
 module _ (shape : Shape) (cells : List Cell) (h : ShapeFits shape cells) (g : Facts) (s : FactsFit shape cells g) where
-  -- these words say the rest, and with it all
-  abbrev Done : Facts → List (List ℕ) → Type 0
-  Done f words = (least : ℕ) × (after : ℕ) × (items_from shape cells true f words ≡ Ok (record g { least = least; after = after }))
+  abbrev DoneFrom : Facts → Type 0
+  DoneFrom f = Done shape cells g f
 
-  done : (f more : Facts) (w : List ℕ) (ws : List (List ℕ)) → take_item shape cells f w ws ≡ Ok more → Done more ws → Done f (w ∷ ws)
-  done f more w ws e d = (
-    d.0,
-    d.1,
-    then (take_item shape cells f w ws) (λ m. items_from shape cells true m ws) more (Ok (record g { least = d.0; after = d.1 })) e d.2,
-  )
+  -- one word more, in front
+  done : (f more : Facts) (w : List ℕ) (d : DoneFrom more) → f.least ≤ more.least → HasForm shape cells f w d.words more → DoneFrom f
+  done f more w d rise t = record {
+    words = w ∷ d.words;
+    least = d.least;
+    after = d.after;
+    read = then (take_item shape cells f w d.words) (λ m. items_from shape cells true m d.words) more
+        (Ok (record g { least = d.least; after = d.after })) (form_takes shape cells f w d.words more h.places t) d.read;
+    past = λ l. by_past l (tells_flags shape cells f w d.words more t);
+    set = λ none. by_set none (tells_flags shape cells f w d.words more t);
+  }
+    where
+      by_past : 37 ≤ f.least → TellsFlags shape.kind f w more → any_names (w ∷ d.words) ≡ false
+      by_past l (inl o) = neither (names_c_or_z w) (any_names d.words) o.0 (d.past (omega (arith, l, rise)))
+      by_past l (inr o) = absurd (omega (arith, l, o.1))
 
-  at_facts : (f k : Facts) (words : List (List ℕ)) → f ≡ k → Done k words → Done f words
-  at_facts f k words e d = subst (λ (x : Facts). Done x words) (sym e) d
+      by_set : any_names (w ∷ d.words) ≡ false → TellsFlags shape.kind f w more
+          → is_carry_and_zero_default shape.kind f.flags ≡ is_carry_and_zero_default shape.kind g.flags
+      by_set none (inl o) = sym o.1 ∙ d.set (or_false (names_c_or_z w) (any_names d.words) none).1
+      by_set none (inr o) = absurd (true_not (names_c_or_z w) o.0 (or_false (names_c_or_z w) (any_names d.words) none).0)
+
+  at_facts : (f k : Facts) → f ≡ k → DoneFrom k → DoneFrom f
+  at_facts f k e d = subst (λ (x : Facts). DoneFrom x) (sym e) d
 
   -- successors
 
   abbrev next_facts : ℕ → ℕ → List ℕ → Facts
   next_facts least after ids = record g { least = least; after = after; next = record { items = ids } }
 
-  next_stage : (front ids : List ℕ) (least after : ℕ) → front ++ ids ≡ g.next.items → rises_from after ids ≡ true
-      → All (λ id. id < shape.points) ids → Done (next_facts least after front) (successor_items ids)
-  next_stage front [] least after e r t =
-      (least, after, ap (λ (x : List ℕ). fine (next_facts least after x)) (sym (append-nil front) ∙ e))
-  next_stage front (id ∷ ids) least after e r t =
+  next_stage : (front ids : List ℕ) (least after : ℕ) → least ≤ successors_place → front ++ ids ≡ g.next.items
+      → rises_from after ids ≡ true → All (λ id. id < shape.points) ids → DoneFrom (next_facts least after front)
+  next_stage front [] least after l e r t = record {
+    words = [];
+    least = least;
+    after = after;
+    read = ap (λ (x : List ℕ). fine (next_facts least after x)) (sym (append-nil front) ∙ e);
+    past = λ _. refl;
+    set = λ _. refl;
+  }
+  next_stage front (id ∷ ids) least after l e r t =
       let two = and_true (leb after id) (rises_from (id + 1) ids) r in
       let count : length front + length (id ∷ ids) ≡ length g.next.items = sym (length-append front (id ∷ ids)) ∙ ap length e in
       let few : length g.next.items ≤ 16 = s.next_fit.2 in
-      done (next_facts least after front) (next_facts successors_place (id + 1) (front ++ id ∷ [])) (62 ∷ decimal id) (successor_items ids)
-      (successor_takes shape cells (next_facts least after front) (successor_items ids) id h.places
-      (record {
+      let later = next_stage (front ++ id ∷ []) ids successors_place (id + 1) (lit≤ tt) (append_assoc front (id ∷ []) ids ∙ e) two.1
+      (All-tail (λ id. id < shape.points) id ids t) in
+      done (next_facts least after front) (next_facts successors_place (id + 1) (front ++ id ∷ [])) (62 ∷ decimal id) later l
+      (successor id (record {
         word = refl;
         whole = refuted shape.plain (λ p. some (length front) (length ids) (length g.next.items) count (ap length (s.next_fit.3 p)));
         there = All-head (λ id. id < shape.points) id ids t;
         room = omega (arith, count, few);
         order = le_is after id two.0;
-      }))
-      (next_stage (front ++ id ∷ []) ids successors_place (id + 1) (append_assoc front (id ∷ []) ids ∙ e) two.1
-      (All-tail (λ id. id < shape.points) id ids t))
+      }) refl)
     where
       some : (m n k : ℕ) → m + suc n ≡ k → k ≡ 0 → ⊥
       some m n k e z = omega arith
@@ -240,12 +232,13 @@ module _ (shape : Shape) (cells : List Cell) (h : ShapeFits shape cells) (g : Fa
   abbrev listed_facts : NamedValues named_items → ℕ → Facts
   listed_facts v least = with_named (next_facts least 0 []) v least
 
-  listed_stage : (least : ℕ) → least ≤ named_place → Done (listed_facts (usuals named_items) least) (listed_and_next g)
+  listed_stage : (least : ℕ) → least ≤ named_place → DoneFrom (listed_facts (usuals named_items) least)
   listed_stage least l =
-      listed_read shape Done (take_item shape cells) done named_items named_place least listed_facts (named_of g)
-      (successor_items g.next.items) refl
-      (λ old n key value ws a name. (refl, name_takes shape cells (listed_facts old n) key value ws name)) s.listed_fit l
-      (λ low m. next_stage [] g.next.items low 0 refl s.next_fit.0 s.next_fit.1)
+      listed_read shape named_items named_place least (λ v low. DoneFrom (listed_facts v low))
+      (λ old new low next w t d. let between = sets_between named_items named_place shape low old w new next t in
+      done (listed_facts old low) (listed_facts new next) w d (omega (arith, between.0)) (listed new next t refl))
+      (named_of g) s.listed_fit l
+      (λ low m. next_stage [] g.next.items low 0 m refl s.next_fit.0 s.next_fit.1)
 
   -- cells
 
@@ -259,18 +252,15 @@ module _ (shape : Shape) (cells : List Cell) (h : ShapeFits shape cells) (g : Fa
   abbrev cell_place : ℕ × Cell → ℕ → ℕ
   cell_place p n = 43 + p.0
 
-  cell_step : (front back : List Fact) (p : ℕ × Cell) (x : Fact) (least : ℕ) (words : List (List ℕ)) → CellAt p (length front)
+  cell_step : (front back : List Fact) (p : ℕ × Cell) (x : Fact) (least : ℕ) → CellAt p (length front)
       → FactIn (cell_form shape p.1) x → in_range p x ≡ false → least ≤ 43 + p.0
-      → Done (cells_facts (43 + p.0 + 1) (front ++ x ∷ back)) words
-      → Done (cells_facts least (front ++ usual_cell p ∷ back)) (cell_word p x ∷ words)
-  cell_step front back p x least words at i o l d =
-      let before = cells_facts least (front ++ usual_cell p ∷ back) in
-      done before (with_cell shape cells before p.0 x) (cell_word p x) words
-      (cell_takes shape cells before words p.0 p.1 x h.places
-      (record { word = refl; below = at.1; there = at.0; own = at.2; fits = i; order = l; other = o }))
-      (at_facts (with_cell shape cells before p.0 x) (cells_facts (43 + p.0 + 1) (front ++ x ∷ back)) words
-      (ap (λ n. cells_facts n (slice_set (front ++ usual_cell p ∷ back) (tracked_before shape.kind p.0 cells) x)) (plus p.0)
-      ∙ ap (cells_facts (43 + p.0 + 1)) (set_middle front back (tracked_before shape.kind p.0 cells) (usual_cell p) x at.3)) d)
+      → DoneFrom (cells_facts (43 + p.0 + 1) (front ++ x ∷ back)) → DoneFrom (cells_facts least (front ++ usual_cell p ∷ back))
+  cell_step front back p x least at i o l d =
+      done (cells_facts least (front ++ usual_cell p ∷ back)) (cells_facts (43 + p.0 + 1) (front ++ x ∷ back)) (cell_word p x) d
+      (omega (arith, l))
+      (cell p.0 p.1 x (record { word = refl; below = at.1; there = at.0; own = at.2; fits = i; order = l; other = o })
+      (sym (ap (λ n. cells_facts n (slice_set (front ++ usual_cell p ∷ back) (tracked_before shape.kind p.0 cells) x)) (plus p.0)
+      ∙ ap (cells_facts (43 + p.0 + 1)) (set_middle front back (tracked_before shape.kind p.0 cells) (usual_cell p) x at.3))))
     where
       plus : (i : ℕ) → 44 + i ≡ 43 + i + 1
       plus i = omega arith
@@ -318,14 +308,11 @@ module _ (shape : Shape) (cells : List Cell) (h : ShapeFits shape cells) (g : Fa
   abbrev usual_cells : List Fact
   usual_cells = map usual_cell (numbered_cells shape.kind 0 cells)
 
-  abbrev cell_words_and_on : List (List ℕ)
-  cell_words_and_on = cell_items shape.kind 0 cells g.cells.items ++ listed_and_next g
-
-  cells_stage : (least : ℕ) → least ≤ 43 → Done (cells_facts least usual_cells) cell_words_and_on
+  cells_stage : (least : ℕ) → least ≤ 43 → DoneFrom (cells_facts least usual_cells)
   cells_stage least l =
       options_read (cells_list shape cells) cell_place CellAt (λ p x. FactIn (cell_form shape p.1) x)
-      (λ low values words. Done (cells_facts low values) words) (λ p x i e. range_only_usual shape p.1 x i e) cell_step
-      (cells_options shape cells) g.cells.items least 59 (listed_and_next g) s.cells_fit (cells_ordered [] cells 0 least refl refl l) listed_stage
+      (λ low values. DoneFrom (cells_facts low values)) (λ p x i e. range_only_usual shape p.1 x i e) cell_step g.cells.items least 59
+      s.cells_fit (cells_ordered [] cells 0 least refl refl l) listed_stage
 
   -- slots
 
@@ -333,129 +320,106 @@ module _ (shape : Shape) (cells : List Cell) (h : ShapeFits shape cells) (g : Fa
   slots_facts least slots = record (cells_facts least usual_cells) { stack = record { items = slots } }
 
   slots_stage : (front slots : List Fact) (least : ℕ) → least ≤ 42 → front ++ slots ≡ g.stack.items → All (FactIn (bytes_forms shape)) slots
-      → Done (slots_facts least front) (slot_items slots ++ cell_words_and_on)
+      → DoneFrom (slots_facts least front)
   slots_stage front [] least l e a =
-      at_facts (slots_facts least front) (cells_facts least usual_cells) cell_words_and_on (ap (slots_facts least) (sym (append-nil front) ∙ e))
+      at_facts (slots_facts least front) (cells_facts least usual_cells) (ap (slots_facts least) (sym (append-nil front) ∙ e))
       (cells_stage least (omega arith))
   slots_stage front (x ∷ slots) least l e a =
       let count : length front + length (x ∷ slots) ≡ length g.stack.items = sym (length-append front (x ∷ slots)) ∙ ap length e in
       let few : length g.stack.items ≤ shape.depth = s.slots_fit in
-      done (slots_facts least front) (slots_facts 42 (front ++ x ∷ [])) (codes "s:" ++ fact_word x) (slot_items slots ++ cell_words_and_on)
-      (slot_takes shape cells (slots_facts least front) (slot_items slots ++ cell_words_and_on) x
-      (record { word = refl; fits = All-head (FactIn (bytes_forms shape)) x slots a; room = omega (arith, count, few); order = l }))
+      done (slots_facts least front) (slots_facts 42 (front ++ x ∷ [])) (codes "s:" ++ fact_word x)
       (slots_stage (front ++ x ∷ []) slots 42 (lit≤ tt) (append_assoc front (x ∷ []) slots ∙ e)
-      (All-tail (FactIn (bytes_forms shape)) x slots a))
+      (All-tail (FactIn (bytes_forms shape)) x slots a)) l
+      (slot x (record { word = refl; fits = All-head (FactIn (bytes_forms shape)) x slots a; room = omega (arith, count, few); order = l })
+      refl)
 
   -- flags
 
   abbrev flags_facts : ℕ → List Bit → Facts
   flags_facts least bs = record (slots_facts least []) { flags = bs }
 
-  -- the words after Z name no flag C or Z
-  abbrev FlagsRead : ℕ → List Bit → List (List ℕ) → Type 0
-  FlagsRead least bs words = Done (flags_facts least bs) words × (37 ≤ least → any_names words ≡ false)
-
   abbrev FlagAt : ℕ → ℕ → Type 0
   FlagAt letter n = (letter ≡ flag_letter n) × (n < 7)
 
-  flag_step : (front back : List Bit) (letter : ℕ) (x : Bit) (least : ℕ) (words : List (List ℕ)) → FlagAt letter (length front)
-      → BitIn (is_handler shape.kind) x → is_default_flag shape.kind x ≡ false → least ≤ 35 + length front
-      → FlagsRead (35 + length front + 1) (front ++ x ∷ back) words
-      → FlagsRead least (front ++ usual_bit shape.kind letter ∷ back) (flag_item letter x ∷ words)
-  flag_step front back letter x least words at i o l d =
+  flag_step : (front back : List Bit) (letter : ℕ) (x : Bit) (least : ℕ) → FlagAt letter (length front)
+      → BitFits shape.kind x → is_default_flag shape.kind x ≡ false → least ≤ 35 + length front
+      → DoneFrom (flags_facts (35 + length front + 1) (front ++ x ∷ back))
+      → DoneFrom (flags_facts least (front ++ usual_bit shape.kind letter ∷ back))
+  flag_step front back letter x least at i o l d =
       let b = length front in
       let before = flags_facts least (front ++ usual_bit shape.kind letter ∷ back) in
-      let is : flag_item letter x ≡ flag_item (flag_letter b) x = ap (λ c. flag_item c x) at.0 in (
-        done before (with_flag before b x) (flag_item letter x) words
-            (flag_takes shape cells before words (flag_item letter x) b x
-            (record {
-              word = is;
-              there = at.1;
-              fits = i;
-              order = l;
-              other = o;
-              meant = λ one. flag_z_so shape before x words (d.1 (omega (arith, one)));
-            }))
-            (at_facts (with_flag before b x) (flags_facts (35 + b + 1) (front ++ x ∷ back)) words
-            (ap (λ n. flags_facts n (slice_set (front ++ usual_bit shape.kind letter ∷ back) b x)) (plus b)
-            ∙ ap (flags_facts (35 + b + 1)) (set_middle front back b (usual_bit shape.kind letter) x refl)) d.0),
-        λ past. neither (names_c_or_z (flag_item letter x)) (any_names words)
-            (flag_other_name b x (flag_item letter x) is (omega (arith, past, l)) at.1) (d.1 (omega (arith, past, l))),
-      )
+      done before (flags_facts (35 + b + 1) (front ++ x ∷ back)) (flag_item letter x) d (omega (arith, l))
+      (flag b x (record {
+        word = ap (λ c. flag_item c x) at.0;
+        there = at.1;
+        fits = i;
+        order = l;
+        other = o;
+        meant = λ one. flag_z_so shape before x d.words (d.past (omega (arith, one)));
+      })
+      (sym (ap (λ n. flags_facts n (slice_set (front ++ usual_bit shape.kind letter ∷ back) b x)) (plus b)
+      ∙ ap (flags_facts (35 + b + 1)) (set_middle front back b (usual_bit shape.kind letter) x refl))))
     where
       plus : (i : ℕ) → 36 + i ≡ 35 + i + 1
       plus i = omega arith
 
-  abbrev flag_words_and_on : List (List ℕ)
-  flag_words_and_on = flag_items shape.kind letters_of_flags g.flags ++ after_flags shape.kind cells g
-
-  flags_stage : (least : ℕ) → least ≤ 35 → Done (flags_facts least (map (usual_bit shape.kind) letters_of_flags)) flag_words_and_on
+  flags_stage : (least : ℕ) → least ≤ 35 → DoneFrom (flags_facts least (map (usual_bit shape.kind) letters_of_flags))
   flags_stage least l =
-      (options_read (flags_list shape cells) (λ c n. 35 + n) FlagAt (λ c x. BitIn (is_handler shape.kind) x) FlagsRead
-      (λ c x i e. flag_usual_only shape.kind x e) flag_step (flags_options shape cells) g.flags least 42 (after_flags shape.kind cells g)
-      s.flags_fit (
-        (refl, lit< tt),
-        l,
-        (
-          (refl, lit< tt),
-          lit≤ tt,
-          (
-            (refl, lit< tt),
-            lit≤ tt,
-            ((refl, lit< tt), lit≤ tt, ((refl, lit< tt), lit≤ tt, ((refl, lit< tt), lit≤ tt, ((refl, lit< tt), lit≤ tt, lit≤ tt)))),
-          ),
-        ),
-      )
-      (λ low b. (slots_stage [] g.stack.items low b refl s.stack_fit, λ past. no_names_after shape.kind cells g))).0
+      options_read (flags_list shape cells) (λ c n. 35 + n) FlagAt (λ c x. BitFits shape.kind x)
+      (λ low values. DoneFrom (flags_facts low values)) (λ c x i e. flag_usual_only shape.kind x e) flag_step g.flags least 42 s.flags_fit
+      (three_of (refl, lit< tt) l (three_of (refl, lit< tt) (lit≤ tt) (three_of (refl, lit< tt) (lit≤ tt) (three_of (refl, lit< tt) (lit≤ tt)
+      (three_of (refl, lit< tt) (lit≤ tt) (three_of (refl, lit< tt) (lit≤ tt) (three_of (refl, lit< tt) (lit≤ tt) (lit≤ tt))))))))
+      (λ low b. slots_stage [] g.stack.items low b refl s.stack_fit)
 
-  -- pairs
+  -- pairs, before which no flag is said
 
   abbrev pairs_facts : ℕ → List PairFact → Facts
   pairs_facts least ps = record (flags_facts least (map (usual_bit shape.kind) letters_of_flags)) { pairs = ps }
-
-  -- where C or Z is said, the words after the pair Z name it
-  abbrev PairsRead : ℕ → List PairFact → List (List ℕ) → Type 0
-  PairsRead least ps words = Done (pairs_facts least ps) words × (35 ≤ least → IsMeant shape.kind g.flags → any_names words ≡ true)
 
   abbrev PairAt : ℕ → ℕ → Type 0
   PairAt letter n = (letter ≡ pair_letter n) × (n < 3)
 
   abbrev PairSaid : ℕ → PairFact → Type 0
   PairSaid letter x =
-      PairIn pair_forms x × (shape.plain ≡ true → is_any_pair x ≡ true)
-      × (letter ≡ 122 → is_zero_or_one x ≡ true → IsMeant shape.kind g.flags)
+      PairFits x × (shape.plain ≡ true → is_any_pair x ≡ true) × (letter ≡ 122 → is_zero_or_one x ≡ true → IsMeant shape.kind g.flags)
 
-  pair_step : (front back : List PairFact) (letter : ℕ) (x : PairFact) (least : ℕ) (words : List (List ℕ)) → PairAt letter (length front)
+  none_said : (kind : Kind) → is_carry_and_zero_default kind (map (usual_bit kind) letters_of_flags) ≡ true
+  none_said Main = refl
+  none_said Handler = refl
+  none_said Alone = refl
+
+  pair_step : (front back : List PairFact) (letter : ℕ) (x : PairFact) (least : ℕ) → PairAt letter (length front)
       → PairSaid letter x → is_any_pair x ≡ false → least ≤ 32 + length front
-      → PairsRead (32 + length front + 1) (front ++ x ∷ back) words
-      → PairsRead least (front ++ AnyPair ∷ back) (pair_item letter x ∷ words)
-  pair_step front back letter x least words at i o l d =
+      → DoneFrom (pairs_facts (32 + length front + 1) (front ++ x ∷ back)) → DoneFrom (pairs_facts least (front ++ AnyPair ∷ back))
+  pair_step front back letter x least at i o l d =
       let k = length front in
       let there : k < 3 = at.1 in
       let before = pairs_facts least (front ++ AnyPair ∷ back) in
-      let whole = refuted shape.plain (λ p. true_not (is_any_pair x) (i.1 p) o) in (
-        done before (with_pair before k x) (pair_item letter x) words
-            (pair_takes shape cells before words (pair_item letter x) k x
-            (record {
-              word = ap (λ c. pair_item c x) at.0;
-              there = there;
-              whole = whole;
-              fits = i.0;
-              order = l;
-              other = o;
-              meant = λ two. not_flag_z shape before x words whole (omega (arith, l, there)) i.0
-                  (λ one. d.1 (omega (arith, two)) (i.2 (at.0 ∙ ap pair_letter two) one));
-            }))
-            (at_facts (with_pair before k x) (pairs_facts (32 + k + 1) (front ++ x ∷ back)) words
-            (ap (λ n. pairs_facts n (slice_set (front ++ AnyPair ∷ back) k x)) (plus k)
-            ∙ ap (pairs_facts (32 + k + 1)) (set_middle front back k AnyPair x refl)) d.0),
-        λ past. absurd (omega (arith, past, l, there)),
-      )
+      let whole = refuted shape.plain (λ p. true_not (is_any_pair x) (i.1 p) o) in
+      done before (pairs_facts (32 + k + 1) (front ++ x ∷ back)) (pair_item letter x) d (omega (arith, l))
+      (pair k x (record {
+        word = ap (λ c. pair_item c x) at.0;
+        there = there;
+        whole = whole;
+        fits = i.0;
+        order = l;
+        other = o;
+        meant = λ two. not_flag_z shape before x d.words whole (omega (arith, l, there)) i.0
+            (λ one. names (any_names d.words) d.set (i.2 (at.0 ∙ ap pair_letter two) one));
+      })
+      (sym (ap (λ n. pairs_facts n (slice_set (front ++ AnyPair ∷ back) k x)) (plus k)
+      ∙ ap (pairs_facts (32 + k + 1)) (set_middle front back k AnyPair x refl))))
     where
       plus : (i : ℕ) → 33 + i ≡ 32 + i + 1
       plus i = omega arith
 
-  pairs_said : (ps : List PairFact) → Each (λ c x. PairIn pair_forms x) letters_of_pairs ps
+      -- where C or Z is said, a word for it comes
+      names : (t : Bool) → (t ≡ false → is_carry_and_zero_default shape.kind (map (usual_bit shape.kind) letters_of_flags)
+          ≡ is_carry_and_zero_default shape.kind g.flags) → IsMeant shape.kind g.flags → t ≡ true
+      names true set m = refl
+      names false set m = absurd (true_not (is_carry_and_zero_default shape.kind g.flags) (sym (set refl) ∙ none_said shape.kind) m)
+
+  pairs_said : (ps : List PairFact) → Each (λ c x. PairFits x) letters_of_pairs ps
       → (shape.plain ≡ true → ps ≡ map usual_pair letters_of_pairs)
       → (is_zero_or_one (get_or ps 2 AnyPair) ≡ true → IsMeant shape.kind g.flags) → Each PairSaid letters_of_pairs ps
   pairs_said [] f p m = absurd f
@@ -476,18 +440,11 @@ module _ (shape : Shape) (cells : List Cell) (h : ShapeFits shape cells) (g : Fa
           usual (suc (suc zero)) = refl
           usual (suc (suc (suc n))) = refl
 
-  abbrev pair_words_and_on : List (List ℕ)
-  pair_words_and_on = pair_items letters_of_pairs g.pairs ++ flag_words_and_on
-
-  pairs_stage : (least : ℕ) → least ≤ 32 → Done (pairs_facts least (map usual_pair letters_of_pairs)) pair_words_and_on
+  pairs_stage : (least : ℕ) → least ≤ 32 → DoneFrom (pairs_facts least (map usual_pair letters_of_pairs))
   pairs_stage least l =
-      (options_read (pairs_list shape cells) (λ c n. 32 + n) PairAt PairSaid PairsRead (λ c x i e. pair_usual_only x e) pair_step
-      (pairs_options shape cells) g.pairs least 35 flag_words_and_on (pairs_said g.pairs s.pairs_fit s.plain_fit s.meant)
-      ((refl, lit< tt), l, ((refl, lit< tt), lit≤ tt, ((refl, lit< tt), lit≤ tt, lit≤ tt)))
-      (λ low b. (
-        flags_stage low b,
-        λ past m. names_said shape.kind (BitIn (is_handler shape.kind)) g.flags (after_flags shape.kind cells g) s.flags_fit m,
-      ))).0
+      options_read (pairs_list shape cells) (λ c n. 32 + n) PairAt PairSaid (λ low values. DoneFrom (pairs_facts low values))
+      (λ c x i e. pair_usual_only x e) pair_step g.pairs least 35 (pairs_said g.pairs s.pairs_fit s.plain_fit s.meant)
+      ((refl, lit< tt), l, ((refl, lit< tt), lit≤ tt, ((refl, lit< tt), lit≤ tt, lit≤ tt))) flags_stage
 
   -- registers
 
@@ -501,25 +458,26 @@ module _ (shape : Shape) (cells : List Cell) (h : ShapeFits shape cells) (g : Fa
   registers_ordered a zero least h l = omega arith
   registers_ordered a (suc n) least h l = ((refl, omega arith), l, registers_ordered (suc a) n (a + 1) (omega arith) (omega arith))
 
-  register_step : (front back : List Fact) (r : ℕ) (x : Fact) (least : ℕ) (words : List (List ℕ)) → RegisterAt r (length front)
+  register_step : (front back : List Fact) (r : ℕ) (x : Fact) (least : ℕ) → RegisterAt r (length front)
       → FactIn (bytes_forms shape) x → is_default shape.kind r x ≡ false → least ≤ r
-      → Done (regs_facts (r + 1) (front ++ x ∷ back)) words
-      → Done (regs_facts least (front ++ usual_fact shape.kind r ∷ back)) (register_item r x ∷ words)
-  register_step front back r x least words at i o l d =
-      let before = regs_facts least (front ++ usual_fact shape.kind r ∷ back) in
-      done before (with_register before r x) (register_item r x) words
-      (register_takes shape cells before words r x (record { word = refl; there = at.1; fits = i; order = l; other = o }))
-      (at_facts (with_register before r x) (regs_facts (r + 1) (front ++ x ∷ back)) words
-      (ap (regs_facts (r + 1)) (set_middle front back r (usual_fact shape.kind r) x at.0)) d)
+      → DoneFrom (regs_facts (r + 1) (front ++ x ∷ back)) → DoneFrom (regs_facts least (front ++ usual_fact shape.kind r ∷ back))
+  register_step front back r x least at i o l d =
+      done (regs_facts least (front ++ usual_fact shape.kind r ∷ back)) (regs_facts (r + 1) (front ++ x ∷ back)) (register_item r x) d
+      (omega (arith, l))
+      (register r x (record { word = refl; there = at.1; fits = i; order = l; other = o })
+      (sym (ap (regs_facts (r + 1)) (set_middle front back r (usual_fact shape.kind r) x at.0))))
 
+  -- some words say all, and only what is spelled does
   pub items_again : (least : ℕ) × (after : ℕ)
       × (read_items shape cells (record { list = spelled shape.kind cells g; ended = true }) ≡ Ok (record g { least = least; after = after }))
   unfolding read_items first_facts
   items_again =
       let kind = shape.kind in
-      at_facts (first_facts kind cells) (regs_facts 0 (map (usual_fact kind) registers)) (spelled kind cells g)
+      let all = options_read (registers_list shape cells) (λ r n. r) RegisterAt (λ r x. FactIn (bytes_forms shape) x)
+      (λ low values. DoneFrom (regs_facts low values)) (λ r x i e. register_only kind r x e) register_step g.regs 0 32 s.regs_fit
+      (registers_ordered 0 32 0 (lit≤ tt) (lit≤ tt)) pairs_stage in
+      let d = at_facts (first_facts kind cells) (regs_facts 0 (map (usual_fact kind) registers))
       (ap (λ (fs : List Fact). record (first_facts kind cells) { cells = record { items = fs } }) (cells_usual kind 0 cells)
-      ∙ ap (regs_facts 0) (registers_usual kind))
-      (options_read (registers_list shape cells) (λ r n. r) RegisterAt (λ r x. FactIn (bytes_forms shape) x)
-      (λ low values words. Done (regs_facts low values) words) (λ r x i e. register_only kind r x e) register_step
-      (registers_options shape cells) g.regs 0 32 pair_words_and_on s.regs_fit (registers_ordered 0 32 0 (lit≤ tt) (lit≤ tt)) pairs_stage)
+      ∙ ap (regs_facts 0) (registers_usual kind)) all in
+      let only = items_only shape cells (line d.words) (record g { least = d.least; after = d.after }) h d.read in
+      (d.least, d.after, ap (items_from shape cells true (first_facts kind cells)) (sym only.words) ∙ d.read)

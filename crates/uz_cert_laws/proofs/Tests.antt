@@ -1,6 +1,6 @@
 -- Tests, and what their answers tell.
 use Rattle.uz_cert_laws.proofs.Common.{suc, ◌≡◌, ◌⊎◌, inl, inr, ℕ, ◌<◌, ◌≤◌, ◌≢◌, Bool, true, false, cond, not, ◌&&◌, ◌||◌, eqb, leb, ltb}
-use Rattle.uz_cert_laws.proofs.Common.{List, bytes_eq, refl, ◌∙◌, ap, arith, Result, Ok, Err, nat_tests, ◌>>=◌, CertWhy}
+use Rattle.uz_cert_laws.proofs.Common.{List, bytes_eq, refl, ◌∙◌, ap, subst, arith, Result, Ok, Err, nat_tests, ◌>>=◌, CertWhy}
 use Rattle.std.proofs.lemmas.Slice.Eq.{bytes_eq-Decides}
 
 pub and_true : (a b : Bool) → (a && b) ≡ true → (a ≡ true) × (b ≡ true)
@@ -85,6 +85,10 @@ fine a = Ok a
 pub fine_is : {A : Type 0} (a b : A) → fine a ≡ fine b → a ≡ b
 fine_is a b e = cc
 
+-- what holds of a value holds of the same value
+pub given : {A : Type 0} (P : A → Type 0) (a b : A) → fine a ≡ fine b → P a → P b
+given P a b e h = subst P (fine_is a b e) h
+
 pub fault_not : {A : Type 0} (w : CertWhy) (a : A) → Err w ≡ fine a → ⊥
 fault_not w a e = cc
 
@@ -121,3 +125,6 @@ then m f a r e g = ap (λ s. s >>= f) e ∙ g
 -- a fact and a further one, in which nested pairs are written without a bracket for each
 pub both_of : {A B : Type 0} → A → B → A × B
 both_of a b = (a, b)
+
+pub three_of : {A B C : Type 0} → A → B → C → A × B × C
+three_of a b c = (a, b, c)
