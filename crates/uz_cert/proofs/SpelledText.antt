@@ -12,7 +12,7 @@ use Rattle.uz_cert.proofs.KeptLaws.{next_of, kept_next, same_cell}
 use Rattle.uz_cert.proofs.ExpectedLineLaws.{PastCells, PastKinds, PastFall, PastRuns, PastRests, PastEntry, PastPoints, due_cell}
 use Rattle.uz_cert.proofs.ExpectedLineLaws.{due_event, due_kind, due_fall, due_run, due_rest, due_entry, due_point, due_end, due_none}
 use Rattle.uz_cert.proofs.ExpectedLineLaws.{equal, not_equal}
-use Rattle.uz_cert.proofs.{Lines.LineSpelling, Lines.line_cut, TextLaws.told, TextLaws.whole_read}
+use Rattle.uz_cert.proofs.{Lines.LineSpelling, Lines.line_cut, TextLaws.told, TextLaws.whole_read, TextLaws.line_said}
 use Rattle.std.proofs.{Common.leb, lemmas.Bool.leb-true, lemmas.List.Sums.sum_by-cons}
 use Rattle.uz_cert_lines.specs.declared.lines.ParsedLine.TheVariants as parsed
 
@@ -27,13 +27,9 @@ pub record IsReadAs (d : Draft) (c : Cert) : Type 0 where
 
 -- one line more
 
-says : (d : Draft) (expected : ExpectedLine) (line : List ℕ) (s : ParsedLine) → reads (form_of d expected) (words_in line true) ≡ Ok s → line_says d expected line
-    true ≡ Ok (next_of d s)
-unfolding line_says draft_after
-says d expected line s e = ap (λ m. m >>= (λ x. Ok (draft_after d x))) e
-
 pub step : (l : LineSpelling) (d : Draft) (s : ParsedLine) (c : Cert) → Kept d → expected_line d ≡ Some (expected_as s) → SaidFits d s
     → IsReadAs (next_of d s) c → IsReadAs d c
+unfolding draft_after
 step l d s c k is fits r = record {
   lines = spelled d.version d.head s ∷ r.lines;
   some = refl;
@@ -41,7 +37,7 @@ step l d s c k is fits r = record {
       ap (λ o. read_by o d (spelled d.version d.head s) r.lines (λ x. read_from x r.lines)) is
       ∙ ap (λ y. or_fault (d.read + 1) y (λ x. read_from x r.lines))
       (ap (line_says d (expected_as s) (spelled d.version d.head s)) r.some
-      ∙ says d (expected_as s) (spelled d.version d.head s) s
+      ∙ line_said d (expected_as s) (spelled d.version d.head s) true (Ok s)
       (ap (reads (form_of d (expected_as s))) (line_cut d.version d.head s) ∙ l.again d s k is fits))
       ∙ r.read;
 }

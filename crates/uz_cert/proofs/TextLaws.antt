@@ -1,4 +1,5 @@
 -- What reading gives is what the relation over all lines says, both ways.
+use Rattle.uz_cert_lines.specs.FirstFault.{ItemsSay}
 use Rattle.uz_cert.proofs.Common.{◌≡◌, ℕ, Bool, true, false, cond, List, [], ◌∷◌, refl, sym, ◌∙◌, ap, Ok, Cell, ◌>>=◌, Words, reads}
 use Rattle.uz_cert.proofs.Common.{ParsedLine, true_not, ◌≢◌, ◌⊎◌, inl, inr, suc, ◌+◌, ◌≤◌, ◌++◌, length, bytes_eq, subst, arith, Option}
 use Rattle.uz_cert.proofs.Common.{Some, None, Result, Err, IfOk, IfErr, Entry, Cert, head_line, Version, First, Second, Third, CertWhy}
@@ -21,17 +22,9 @@ end_ended false [] n e = absurd cc
 end_ended false (w ∷ ws) n e = absurd cc
 
 items_ended : (shape : Shape) (cells : List Cell) (ended : Bool) (f : Facts) (words : List (List ℕ)) (said : Facts)
-    → items_from shape cells ended f words ≡ Ok said → ended ≡ true
-items_ended shape cells true f [] said e = refl
-items_ended shape cells false f [] said e = absurd cc
-items_ended shape cells ended f (w ∷ ws) said e =
-    let m = bind_ok (take_item shape cells f w ws) (λ more. items_from shape cells ended more ws) said e in
-    items_ended shape cells ended m.0 ws said m.2
-
-all_items_ended : (shape : Shape) (cells : List Cell) (words : Words) (said : Facts) → read_items shape cells words ≡ Ok said
-    → words.ended ≡ true
-unfolding read_items
-all_items_ended shape cells words said e = items_ended shape cells words.ended (first_facts shape.kind cells) words.list said e
+    → ItemsSay shape cells ended f words said → ended ≡ true
+items_ended shape cells ended f [] said a = a.0
+items_ended shape cells ended f (w ∷ ws) said a = items_ended shape cells ended a.0 ws said a.2
 
 spans_ended : (cells : List Cell) (words : Words) (p : List Ends × Words) → spans_of cells words ≡ Ok p → p.1.ended ≡ words.ended
 spans_ended [] words p e = sym (ap (λ q. q.1.ended) (fine_is ([], words) p e))
@@ -46,28 +39,16 @@ spans_ended (m ∷ ms) words p e = by (tracks Handler m.owner) e (λ rest q g. s
         let b = bind_ok (spans_of ms (rest_of words)) (λ q. Ok (a.0 ∷ q.0, q.1)) p a.2 in
         sym (ap (λ q. q.1.ended) (fine_is (a.0 ∷ b.0.0, b.0.1) p b.2)) ∙ later (rest_of words) b.0 b.1
 
-pub line_ended : (form : LineForm) (words : Words) (said : ParsedLine) → reads form words ≡ Ok said → words.ended ≡ true
-line_ended (fixed wanted form) words said e =
-    let m = bind_ok (next_as (fixed_of wanted) words) (λ n. reads form (rest_of words)) said e in
-    line_ended form (rest_of words) said m.2
-line_ended (number a form) words said e =
-    let m = bind_ok (next_as (number_of a) words) (λ n. reads (form n) (rest_of words)) said e in
-    line_ended (form m.0) (rest_of words) said m.2
-line_ended (choice wanted form) words said e =
-    let m = bind_ok (next_as (choice_of wanted) words) (λ n. reads (form n) (rest_of words)) said e in
-    line_ended (form m.0) (rest_of words) said m.2
-line_ended (slope limit form) words said e =
-    let m = bind_ok (next_as (slope_of limit) words) (λ n. reads (form n) (rest_of words)) said e in
-    line_ended (form m.0) (rest_of words) said m.2
-line_ended (spans cells form) words said e =
-    let m = bind_ok (spans_of cells words) (λ p. reads (form p.0) p.1) said e in
-    sym (spans_ended cells words m.0 m.1) ∙ line_ended (form m.0.0) m.0.1 said m.2
-line_ended (items shape cells say) words said e =
-    let m = bind_ok (read_items shape cells words) (λ facts. Ok (say facts)) said e in
-    all_items_ended shape cells words m.0 m.1
-line_ended (finish s) words said e =
-    let m = bind_ok (end_of words.ended words.list) (λ n. Ok s) said e in
-    end_ended words.ended words.list m.0 m.1
+-- a line that a form allows ends in LF
+line_ended : (form : LineForm) (words : Words) (said : ParsedLine) → Allows form words said → words.ended ≡ true
+line_ended (fixed wanted form) words said a = line_ended form (rest_of words) said a.2
+line_ended (number b form) words said a = line_ended (form a.0) (rest_of words) said a.2
+line_ended (choice wanted form) words said a = line_ended (form a.0) (rest_of words) said a.2
+line_ended (slope limit form) words said a = line_ended (form a.0) (rest_of words) said a.2
+line_ended (spans cells form) words said a = sym (spans_ended cells words a.0 a.1) ∙ line_ended (form a.0.0) a.0.1 said a.2
+line_ended (items shape cells say) words said a =
+    items_ended shape cells words.ended (first_facts shape.kind cells) words.list a.0 a.1
+line_ended (finish s) words said a = end_ended words.ended words.list 0 a.0
 
 -- what is known of one line
 pub record LineLaw : Type 0 where
@@ -95,17 +76,11 @@ same_fault m n v w e =
 
 -- one line
 
-abbrev refusal : CertWhy → Result Draft CertWhy
-refusal w = Err w
-
-abbrev unsaid : CertWhy → Result ParsedLine CertWhy
-unsaid w = Err w
-
-bind_err : (m : Result ParsedLine CertWhy) (f : ParsedLine → Draft) (w : CertWhy) → m >>= (λ s. fine (f s)) ≡ Err w → m ≡ Err w
-bind_err (Ok s) f w e = absurd cc
-bind_err (Err v) f w e =
-    let same : v ≡ w = cc in
-    ap unsaid same
+-- what it says, by how its words are read
+pub line_said : (d : Draft) (expected : ExpectedLine) (line : List ℕ) (ended : Bool) (r : Result ParsedLine CertWhy)
+    → reads (form_of d expected) (words_in line ended) ≡ r → line_says d expected line ended ≡ r >>= (λ s. fine (draft_after d s))
+unfolding line_says
+line_said d expected line ended r e = ap (λ m. m >>= (λ s. fine (draft_after d s))) e
 
 pub says_ok : (d m : Draft) (expected : ExpectedLine) (line : List ℕ) (ended : Bool) → line_says d expected line ended ≡ Ok m
     → (s : ParsedLine) × (reads (form_of d expected) (words_in line ended) ≡ Ok s) × (m ≡ draft_after d s)
@@ -114,184 +89,24 @@ says_ok d m expected line ended e =
     let b = bind_ok (reads (form_of d expected) (words_in line ended)) (λ s. fine (draft_after d s)) m e in
     (b.0, b.1, sym (fine_is (draft_after d b.0) m b.2))
 
-says_err : (d : Draft) (expected : ExpectedLine) (line : List ℕ) (ended : Bool) (w : CertWhy) → line_says d expected line ended ≡ Err w
-    → reads (form_of d expected) (words_in line ended) ≡ Err w
-unfolding line_says
-says_err d expected line ended w e = bind_err (reads (form_of d expected) (words_in line ended)) (draft_after d) w e
-
-ok_says : (d : Draft) (expected : ExpectedLine) (line : List ℕ) (ended : Bool) (s : ParsedLine) → reads (form_of d expected) (words_in line ended) ≡ Ok s
-    → line_says d expected line ended ≡ Ok (draft_after d s)
-unfolding line_says
-ok_says d expected line ended s e = ap (λ m. m >>= (λ s. fine (draft_after d s))) e
-
-err_says : (d : Draft) (expected : ExpectedLine) (line : List ℕ) (ended : Bool) (w : CertWhy) → reads (form_of d expected) (words_in line ended) ≡ Err w
-    → line_says d expected line ended ≡ Err w
-unfolding line_says
-err_says d expected line ended w e = ap (λ m. m >>= (λ s. fine (draft_after d s))) e
-
 -- a step, or its fault
 pub fault_ok : (n : ℕ) (r : Result Draft CertWhy) (more : Draft → Result Cert Fault) (c : Cert) → or_fault n r more ≡ told c
     → (m : Draft) × (r ≡ Ok m) × (more m ≡ told c)
 fault_ok n (Ok m) more c e = (m, refl, e)
 fault_ok n (Err w) more c e = absurd cc
 
-fault_err : (n k : ℕ) (r : Result Draft CertWhy) (more : Draft → Result Cert Fault) (w : CertWhy) → or_fault n r more ≡ fault k w
-    → ((r ≡ Err w) × (k ≡ n)) ⊎ ((m : Draft) × (r ≡ Ok m) × (more m ≡ fault k w))
-fault_err n k (Ok m) more w e = inr (m, refl, e)
-fault_err n k (Err v) more w e = let same = same_fault n k v w e in inl (ap refusal same.1, sym same.0)
-
 pub read_next : (d : Draft) (s : ParsedLine) → (draft_after d s).read ≡ d.read + 1
 unfolding draft_after
 read_next d s = refl
 
-adds : (l : LineLaw) (d m : Draft) (expected : ExpectedLine) (line : List ℕ) (rest : List (List ℕ)) → expected_line d ≡ Some expected → line_says d expected line
-    (is_more rest) ≡ Ok m
-    → Adds d line m × (is_more rest ≡ true) × (m.read ≡ d.read + 1)
-adds l d m expected line rest is e =
-    let s = says_ok d m expected line (is_more rest) e in
-    let more = line_ended (form_of d expected) (words_in line (is_more rest)) s.0 s.1 in (
-      record {
-        expected = expected;
-        is_expected = is;
-        said = s.0;
-        allowed = subst (λ t. Allows (form_of d expected) (words_in line t) s.0) more (l.read (form_of d expected) (words_in line (is_more rest)) s.0
-            s.1);
-        leads = s.2;
-      },
-      more,
-      ap (λ x. x.read) s.2 ∙ read_next d s.0,
-    )
-
--- all pieces after the head
-
-record EndsAs (d : Draft) (pieces : List (List ℕ)) (c : Cert) : Type 0 where
-  lines : List (List ℕ)
-  parts : pieces ≡ lines ++ [] ∷ []
-  draft : Draft
-  reaches : Reaches d lines draft
-  whole : expected_line draft ≡ None
-  entry : Entry
-  has_entry : draft.entry ≡ Some entry
-  is : c ≡ cert_from draft entry
-
-record Fails (d : Draft) (pieces : List (List ℕ)) (n : ℕ) (w : CertWhy) : Type 0 where
-  before : List (List ℕ)
-  line : List ℕ
-  rest : List (List ℕ)
-  parts : pieces ≡ before ++ line ∷ rest
-  draft : Draft
-  reaches : Reaches d before draft
-  number : n ≡ draft.read + 1
-  fails : LineFails (expected_line draft) draft line rest w
-
-with_ok : (d : Draft) (o : Option Entry) (c : Cert) → cert_with d o ≡ told c → (e : Entry) × (o ≡ Some e) × (c ≡ cert_from d e)
-with_ok d None c e = absurd cc
-with_ok d (Some x) c e = (x, refl, sym (same_cert (cert_from d x) c e))
-
-end_ok : (d : Draft) (line : List ℕ) (rest : List (List ℕ)) (c : Cert) → expected_line d ≡ None → cert_before d line rest ≡ told c
-    → EndsAs d (line ∷ rest) c
-unfolding cert_before
-end_ok d [] [] c expected e =
-    let x = with_ok d d.entry c e in
-    record { lines = []; parts = refl; draft = d; reaches = refl; whole = expected; entry = x.0; has_entry = x.1; is = x.2 }
-end_ok d [] (piece ∷ rest) c expected e = absurd cc
-end_ok d (b ∷ bs) rest c expected e = absurd cc
-
-has_entry : (o : Option Entry) → lacks o ≡ false → (e : Entry) × (o ≡ Some e)
-has_entry None h = absurd cc
-has_entry (Some e) h = (e, refl)
-
-not_told : (d : Draft) (e : Entry) (n : ℕ) (w : CertWhy) → told (cert_from d e) ≡ fault n w → ⊥
-not_told d e n w h = cc
-
-end_err : (d : Draft) (line : List ℕ) (rest : List (List ℕ)) (n : ℕ) (w : CertWhy) → 1 ≤ d.read → expected_line d ≡ None → cert_before d line
-    rest ≡ fault n w
-    → ((line ≢ []) ⊎ (rest ≢ [])) × (w ≡ why.NoEnd) × (n ≡ d.read + 1)
-unfolding cert_before
-end_err d [] [] n w some expected e =
-    let x = has_entry d.entry (is_whole d some expected).entry in
-    absurd (not_told d x.0 n w (sym (ap (cert_with d) x.1) ∙ e))
-end_err d [] (piece ∷ rest) n w some expected e = let s = same_fault (d.read + 1) n why.NoEnd w e in (inr (λ h. cc h), sym s.1, sym s.0)
-end_err d (b ∷ bs) rest n w some expected e = let s = same_fault (d.read + 1) n why.NoEnd w e in (inl (λ h. cc h), sym s.1, sym s.0)
-
-from_ok : (l : LineLaw) (d : Draft) (pieces : List (List ℕ)) (c : Cert) → read_from d pieces ≡ told c → EndsAs d pieces c
-from_ok l d [] c e = absurd cc
-from_ok l d (line ∷ rest) c e = by (expected_line d) refl e (λ m h. from_ok l m rest c h)
-  where
-    by : (o : Option ExpectedLine) → expected_line d ≡ o → read_by o d line rest (λ more. read_from more rest) ≡ told c
-        → ((m : Draft) → read_from m rest ≡ told c → EndsAs m rest c) → EndsAs d (line ∷ rest) c
-    by None is h later = end_ok d line rest c is h
-    by (Some expected) is h later =
-        let m = fault_ok (d.read + 1) (line_says d expected line (is_more rest)) (λ more. read_from more rest) c h in
-        let a = adds l d m.0 expected line rest is m.1 in
-        let x = later m.0 m.2 in
-        record {
-          lines = line ∷ x.lines;
-          parts = ap (λ ps. line ∷ ps) x.parts;
-          draft = x.draft;
-          reaches = (m.0, a.0, x.reaches);
-          whole = x.whole;
-          entry = x.entry;
-          has_entry = x.has_entry;
-          is = x.is;
-        }
-
-from_err : (l : LineLaw) (d : Draft) (pieces : List (List ℕ)) (n : ℕ) (w : CertWhy) → 1 ≤ d.read → is_more pieces ≡ true
-    → read_from d pieces ≡ fault n w → Fails d pieces n w
-from_err l d [] n w some more e = absurd cc
-from_err l d (line ∷ rest) n w some more e = by (expected_line d) refl e (λ m r k h. from_err l m rest n w r k h)
-  where
-    by : (o : Option ExpectedLine) → expected_line d ≡ o → read_by o d line rest (λ more. read_from more rest) ≡ fault n w
-        → ((m : Draft) → 1 ≤ m.read → is_more rest ≡ true → read_from m rest ≡ fault n w → Fails m rest n w) → Fails d (line ∷ rest) n w
-    by None is h later =
-        let x = end_err d line rest n w some is h in
-        record {
-          before = [];
-          line = line;
-          rest = rest;
-          parts = refl;
-          draft = d;
-          reaches = refl;
-          number = x.2;
-          fails = subst (λ o. LineFails o d line rest w) (sym is) (x.0, x.1);
-        }
-    by (Some expected) is h later =
-        elim (fault_err (d.read + 1) n (line_says d expected line (is_more rest)) (λ more. read_from more rest) w h) [
-          | inl x ↦ record {
-            before = [];
-            line = line;
-            rest = rest;
-            parts = refl;
-            draft = d;
-            reaches = refl;
-            number = x.1;
-            fails = subst (λ o. LineFails o d line rest w) (sym is)
-                (l.refused (form_of d expected) (words_in line (is_more rest)) w (says_err d expected line (is_more rest) w x.0));
-          }
-          | inr m ↦
-              let a = adds l d m.0 expected line rest is m.1 in
-              let read = a.2 in
-              let x = later m.0 (omega (arith, read)) a.1 m.2 in
-              record {
-                before = line ∷ x.before;
-                line = x.line;
-                rest = x.rest;
-                parts = ap (λ ps. line ∷ ps) x.parts;
-                draft = x.draft;
-                reaches = (m.0, a.0, x.reaches);
-                number = x.number;
-                fails = x.fails;
-              }
-        ]
-
--- and back
+-- from a relation to what is read
 
 add_read : (l : LineLaw) (d m : Draft) (line : List ℕ) (rest : List (List ℕ)) → Adds d line m → is_more rest ≡ true
     → read_from d (line ∷ rest) ≡ read_from m rest
 add_read l d m line rest a more =
     ap (λ o. read_by o d line rest (λ x. read_from x rest)) a.is_expected
     ∙ (ap (λ r. or_fault (d.read + 1) r (λ x. read_from x rest))
-    (ap (line_says d a.expected line) more ∙ ok_says d a.expected line true a.said (l.allowed (form_of d a.expected) (words_in line true) a.said
+    (ap (line_says d a.expected line) more ∙ line_said d a.expected line true (Ok a.said) (l.allowed (form_of d a.expected) (words_in line true) a.said
     a.allowed))
     ∙ ap (λ x. read_from x rest) (sym a.leads))
 
@@ -336,7 +151,7 @@ line_fault l d line rest w None is h =
 line_fault l d line rest w (Some expected) is h =
     ap (λ o. read_by o d line rest (λ more. read_from more rest)) is
     ∙ ap (λ r. or_fault (d.read + 1) r (λ more. read_from more rest))
-    (err_says d expected line (is_more rest) w (l.faulty (form_of d expected) (words_in line (is_more rest)) w h))
+    (line_said d expected line (is_more rest) (Err w) (l.faulty (form_of d expected) (words_in line (is_more rest)) w h))
 
 -- the head
 
@@ -353,77 +168,12 @@ head_read First rest more = ap (λ t. or_fault 1 (cond t (Ok (first_draft First)
 head_read Second rest more = ap (λ t. or_fault 1 (cond t (Ok (first_draft Second)) (Err why.NoEnd)) (λ d. read_from d rest)) more
 head_read Third rest more = ap (λ t. or_fault 1 (cond t (Ok (first_draft Third)) (Err why.NoEnd)) (λ d. read_from d rest)) more
 
-pub text_certificate : (l : LineLaw) (v : Version) (text : List ℕ) (c : Cert) → cert_of_text v text ≡ told c → IsCertificateText v text c
-text_certificate l v text c e = by (pieces_of text) e
-  where
-    of_rest : (rest : List (List ℕ)) → EndsAs (first_draft v) rest c → SpellsCertificate v (head_line v ∷ rest) c
-    of_rest rest x = record {
-      lines = x.lines;
-      parts = ap (λ ps. head_line v ∷ ps) x.parts;
-      draft = x.draft;
-      reaches = x.reaches;
-      whole = x.whole;
-      entry = x.entry;
-      has_entry = x.has_entry;
-      is = x.is;
-    }
-
-    of_head : (line : List ℕ) (rest : List (List ℕ)) (t : Bool) → bytes_eq line (head_line v) ≡ t
-        → or_fault 1 (cond t (cond (is_more rest) (Ok (first_draft v)) (Err why.NoEnd)) (Err why.Head)) (λ d. read_from d rest) ≡ told c
-        → SpellsCertificate v (line ∷ rest) c
-    of_head line [] true is h = absurd cc
-    of_head line (piece ∷ rest) true is h =
-        subst (λ x. SpellsCertificate v (x ∷ piece ∷ rest) c) (sym ((test_head v line).0 is))
-        (of_rest (piece ∷ rest) (from_ok l (first_draft v) (piece ∷ rest) c h))
-    of_head line rest false is h = absurd cc
-
-    by : (pieces : List (List ℕ)) → read_pieces v pieces ≡ told c → SpellsCertificate v pieces c
-    by [] h = absurd cc
-    by (line ∷ rest) h = of_head line rest (bytes_eq line (head_line v)) refl h
-
 pub certificate_text : (l : LineLaw) (v : Version) (text : List ℕ) (c : Cert) → IsCertificateText v text c → cert_of_text v text ≡ told c
 certificate_text l v text c s =
     ap (read_pieces v) s.parts
     ∙ (head_read v (s.lines ++ [] ∷ []) (more_after s.lines [] [])
     ∙ (reach_read l (first_draft v) s.draft s.lines [] [] s.reaches
     ∙ (whole_read s.draft s.entry s.whole s.has_entry ∙ ap told (sym s.is))))
-
-pub text_fault : (l : LineLaw) (v : Version) (text : List ℕ) (n : ℕ) (w : CertWhy) → cert_of_text v text ≡ fault n w
-    → IsFirstFault v text n w
-text_fault l v text n w e = by (pieces_of text) (some_piece text) e
-  where
-    later : (rest : List (List ℕ)) → Fails (first_draft v) rest n w → FailsLater v (head_line v ∷ rest) n w
-    later rest x =
-        let number = x.number in
-        let count = reach_number (first_draft v) x.draft x.before x.reaches in
-        record {
-          before = x.before;
-          line = x.line;
-          rest = x.rest;
-          parts = ap (λ ps. head_line v ∷ ps) x.parts;
-          draft = x.draft;
-          reaches = x.reaches;
-          number = omega (arith, number, count);
-          fails = x.fails;
-        }
-
-    of_head : (line : List ℕ) (rest : List (List ℕ)) (t : Bool) → bytes_eq line (head_line v) ≡ t
-        → or_fault 1 (cond t (cond (is_more rest) (Ok (first_draft v)) (Err why.NoEnd)) (Err why.Head)) (λ d. read_from d rest) ≡ fault n w
-        → FailsAtHead v (line ∷ rest) n w ⊎ FailsLater v (line ∷ rest) n w
-    of_head line [] true is h =
-        let s = same_fault 1 n why.NoEnd w h in
-        inl (record { line = line; rest = []; parts = refl; number = sym s.0; fails = inr ((test_head v line).0 is, refl, sym s.1) })
-    of_head line (piece ∷ rest) true is h =
-        inr (subst (λ x. FailsLater v (x ∷ piece ∷ rest) n w) (sym ((test_head v line).0 is))
-        (later (piece ∷ rest) (from_err l (first_draft v) (piece ∷ rest) n w (omega arith) refl h)))
-    of_head line rest false is h =
-        let s = same_fault 1 n why.Head w h in
-        inl (record { line = line; rest = rest; parts = refl; number = sym s.0; fails = inl ((test_head v line).1 is, sym s.1) })
-
-    by : (pieces : List (List ℕ)) → is_more pieces ≡ true → read_pieces v pieces ≡ fault n w
-        → FailsAtHead v pieces n w ⊎ FailsLater v pieces n w
-    by [] more h = absurd cc
-    by (line ∷ rest) more h = of_head line rest (bytes_eq line (head_line v)) refl h
 
 not_head : (v : Version) (line : List ℕ) (rest : List (List ℕ)) (t : Bool) → bytes_eq line (head_line v) ≡ t → line ≢ head_line v
     → or_fault 1 (cond t (cond (is_more rest) (Ok (first_draft v)) (Err why.NoEnd)) (Err why.Head)) (λ d. read_from d rest)
@@ -455,6 +205,169 @@ fault_text l v text n w (inr h) =
     ∙ (reach_read l (first_draft v) h.draft h.before h.line h.rest h.reaches
     ∙ (line_fault l h.draft h.line h.rest w (expected_line h.draft) refl h.fails ∙ ap (λ k. fault k w) same)))
 
+-- from a text to the relation
+
+-- nothing follows the last LF, and no line is due any more
+abbrev IsEnd : Draft → List ℕ → List (List ℕ) → Type 0
+IsEnd d line rest = (line ≡ []) × (rest ≡ []) × (expected_line d ≡ None) × (e : Entry) × (d.entry ≡ Some e)
+
+-- the lines up to one are as is due, and that one is the end or has a fault
+record Stops (d : Draft) (pieces : List (List ℕ)) : Type 0 where
+  before : List (List ℕ)
+  line : List ℕ
+  rest : List (List ℕ)
+  parts : pieces ≡ before ++ line ∷ rest
+  draft : Draft
+  reaches : Reaches d before draft
+  how : IsEnd draft line rest ⊎ ((w : CertWhy) × LineFails (expected_line draft) draft line rest w)
+
+has_entry : (o : Option Entry) → lacks o ≡ false → (e : Entry) × (o ≡ Some e)
+has_entry None h = absurd cc
+has_entry (Some e) h = (e, refl)
+
+none_due : (d : Draft) (line : List ℕ) (rest : List (List ℕ)) → 1 ≤ d.read → expected_line d ≡ None
+    → IsEnd d line rest ⊎ ((w : CertWhy) × LineFails None d line rest w)
+none_due d [] [] some is = let x = has_entry d.entry (is_whole d some is).entry in inl (refl, refl, is, x.0, x.1)
+none_due d [] (piece ∷ rest) some is = inr (why.NoEnd, (inr (λ h. cc h), refl))
+none_due d (b ∷ bs) rest some is = inr (why.NoEnd, (inl (λ h. cc h), refl))
+
+stops : (l : LineLaw) (d : Draft) (pieces : List (List ℕ)) → 1 ≤ d.read → is_more pieces ≡ true → Stops d pieces
+stops l d [] some more = absurd cc
+stops l d (line ∷ rest) some more = by (expected_line d) refl (λ m r k. stops l m rest r k)
+  where
+    here : IsEnd d line rest ⊎ ((w : CertWhy) × LineFails (expected_line d) d line rest w) → Stops d (line ∷ rest)
+    here how = record { before = []; line = line; rest = rest; parts = refl; draft = d; reaches = refl; how = how }
+
+    fails : (o : Option ExpectedLine) → expected_line d ≡ o → (w : CertWhy) → LineFails o d line rest w → Stops d (line ∷ rest)
+    fails o is w f = here (inr (w, subst (λ x. LineFails x d line rest w) (sym is) f))
+
+    by_words : (expected : ExpectedLine) → expected_line d ≡ Some expected
+        → ((m : Draft) → 1 ≤ m.read → is_more rest ≡ true → Stops m rest) → (r : Result ParsedLine CertWhy)
+        → reads (form_of d expected) (words_in line (is_more rest)) ≡ r → Stops d (line ∷ rest)
+    by_words expected is later (Err w) e =
+        fails (Some expected) is w (l.refused (form_of d expected) (words_in line (is_more rest)) w e)
+    by_words expected is later (Ok s) e =
+        let allowed = l.read (form_of d expected) (words_in line (is_more rest)) s e in
+        let more = line_ended (form_of d expected) (words_in line (is_more rest)) s allowed in
+        let adds : Adds d line (draft_after d s) = record {
+          expected = expected;
+          is_expected = is;
+          said = s;
+          allowed = subst (λ t. Allows (form_of d expected) (words_in line t) s) more allowed;
+          leads = refl;
+        } in
+        let x = later (draft_after d s) (omega (arith, read_next d s)) more in
+        record {
+          before = line ∷ x.before;
+          line = x.line;
+          rest = x.rest;
+          parts = ap (λ ps. line ∷ ps) x.parts;
+          draft = x.draft;
+          reaches = (draft_after d s, adds, x.reaches);
+          how = x.how;
+        }
+
+    by : (o : Option ExpectedLine) → expected_line d ≡ o → ((m : Draft) → 1 ≤ m.read → is_more rest ≡ true → Stops m rest)
+        → Stops d (line ∷ rest)
+    by None is later = elim (none_due d line rest some is) [ inl x ↦ here (inl x) | inr f ↦ fails None is f.0 f.1 ]
+    by (Some expected) is later = by_words expected is later (reads (form_of d expected) (words_in line (is_more rest))) refl
+
+abbrev Decided : Version → List (List ℕ) → Type 0
+Decided v pieces =
+    ((c : Cert) × SpellsCertificate v pieces c) ⊎ ((n : ℕ) × (w : CertWhy) × (FailsAtHead v pieces n w ⊎ FailsLater v pieces n w))
+
+decide : (l : LineLaw) (v : Version) (pieces : List (List ℕ)) → is_more pieces ≡ true → Decided v pieces
+decide l v [] more = absurd cc
+decide l v (line ∷ rest) more = by_head (bytes_eq line (head_line v)) refl rest
+  where
+    of_rest : (rest : List (List ℕ)) → Stops (first_draft v) rest → Decided v (head_line v ∷ rest)
+    of_rest rest x = elim x.how [
+      | inl e ↦ inl (
+        cert_from x.draft e.3,
+        record {
+          lines = x.before;
+          parts = ap (λ ps. head_line v ∷ ps) (x.parts ∙ ap (λ y. x.before ++ y ∷ x.rest) e.0 ∙ ap (λ ys. x.before ++ [] ∷ ys) e.1);
+          draft = x.draft;
+          reaches = x.reaches;
+          whole = e.2;
+          entry = e.3;
+          has_entry = e.4;
+          is = refl;
+        },
+      )
+      | inr f ↦ inr (
+        length x.before + 2,
+        f.0,
+        inr (record {
+          before = x.before;
+          line = x.line;
+          rest = x.rest;
+          parts = ap (λ ps. head_line v ∷ ps) x.parts;
+          draft = x.draft;
+          reaches = x.reaches;
+          number = refl;
+          fails = f.1;
+        }),
+      )
+    ]
+
+    by_head : (t : Bool) → bytes_eq line (head_line v) ≡ t → (others : List (List ℕ)) → Decided v (line ∷ others)
+    by_head false is others =
+        inr (1, why.Head, inl (record {
+          line = line;
+          rest = others;
+          parts = refl;
+          number = refl;
+          fails = inl ((test_head v line).1 is, refl);
+        }))
+    by_head true is [] =
+        inr (1, why.NoEnd, inl (record {
+          line = line;
+          rest = [];
+          parts = refl;
+          number = refl;
+          fails = inr ((test_head v line).0 is, refl, refl);
+        }))
+    by_head true is (piece ∷ others) =
+        subst (λ x. Decided v (x ∷ piece ∷ others)) (sym ((test_head v line).0 is))
+        (of_rest (piece ∷ others) (stops l (first_draft v) (piece ∷ others) (omega arith) refl))
+
+-- each text is one certificate's or has one first fault, and never both
+
+pub decided : (l : LineLaw) (v : Version) (text : List ℕ)
+    → ((c : Cert) × IsCertificateText v text c) ⊎ ((n : ℕ) × (w : CertWhy) × IsFirstFault v text n w)
+decided l v text = decide l v (pieces_of text) (some_piece text)
+
+differ : (c : Cert) (n : ℕ) (w : CertWhy) → told c ≡ fault n w → ⊥
+differ c n w h = cc
+
+pub one_certificate : (l : LineLaw) (v : Version) (text : List ℕ) (a b : Cert) → IsCertificateText v text a → IsCertificateText v text b
+    → a ≡ b
+one_certificate l v text a b p q = same_cert a b (sym (certificate_text l v text a p) ∙ certificate_text l v text b q)
+
+pub one_fault : (l : LineLaw) (version : Version) (text : List ℕ) (m n : ℕ) (v w : CertWhy) → IsFirstFault version text m v
+    → IsFirstFault version text n w → (m ≡ n) × (v ≡ w)
+one_fault l version text m n v w p q = same_fault m n v w (sym (fault_text l version text m v p) ∙ fault_text l version text n w q)
+
+pub not_both : (l : LineLaw) (v : Version) (text : List ℕ) (c : Cert) (n : ℕ) (w : CertWhy) → IsCertificateText v text c
+    → IsFirstFault v text n w → ⊥
+not_both l v text c n w p q = differ c n w (sym (certificate_text l v text c p) ∙ fault_text l v text n w q)
+
+pub text_certificate : (l : LineLaw) (v : Version) (text : List ℕ) (c : Cert) → cert_of_text v text ≡ told c → IsCertificateText v text c
+text_certificate l v text c e = elim (decided l v text) [
+  | inl d ↦ subst (IsCertificateText v text) (same_cert d.0 c (sym (certificate_text l v text d.0 d.1) ∙ e)) d.1
+  | inr f ↦ absurd (differ c f.0 f.1 (sym e ∙ fault_text l v text f.0 f.1 f.2))
+]
+
+pub text_fault : (l : LineLaw) (v : Version) (text : List ℕ) (n : ℕ) (w : CertWhy) → cert_of_text v text ≡ fault n w
+    → IsFirstFault v text n w
+text_fault l v text n w e = elim (decided l v text) [
+  | inl d ↦ absurd (differ d.0 n w (sym (certificate_text l v text d.0 d.1) ∙ e))
+  | inr f ↦
+      let same = same_fault f.0 n f.1 w (sym (fault_text l v text f.0 f.1 f.2) ∙ e) in
+      subst (λ k. IsFirstFault v text k w) same.0 (subst (IsFirstFault v text f.0) same.1 f.2)
+]
+
 -- what is answered, by the relation
 
 pub found_text : (l : LineLaw) (v : Version) (text : List ℕ) (result : Result Cert CertError) → Gives result (cert_of_text v text)
@@ -474,29 +387,3 @@ first_fault l v text (Err e) g = elim g [ inl m ↦ inl m | inr f ↦ inr (text_
 pub faulty_text : (l : LineLaw) (v : Version) (text : List ℕ) (result : Result Cert CertError) → Gives result (cert_of_text v text)
     → (n : ℕ) (w : CertWhy) → IsFirstFault v text n w → Gives result (Err (n, w))
 faulty_text l v text result g n w s = subst (Gives result) (fault_text l v text n w s) g
-
--- each text is one certificate's or has one first fault, and never both
-
-pub decided : (l : LineLaw) (v : Version) (text : List ℕ)
-    → ((c : Cert) × IsCertificateText v text c) ⊎ ((n : ℕ) × (w : CertWhy) × IsFirstFault v text n w)
-decided l v text = by (cert_of_text v text) refl
-  where
-    by : (r : Result Cert Fault) → cert_of_text v text ≡ r → ((c : Cert) × IsCertificateText v text c)
-        ⊎ ((n : ℕ) × (w : CertWhy) × IsFirstFault v text n w)
-    by (Ok c) e = inl (c, text_certificate l v text c e)
-    by (Err f) e = inr (f.0, f.1, text_fault l v text f.0 f.1 e)
-
-pub one_certificate : (l : LineLaw) (v : Version) (text : List ℕ) (a b : Cert) → IsCertificateText v text a → IsCertificateText v text b
-    → a ≡ b
-one_certificate l v text a b p q = same_cert a b (sym (certificate_text l v text a p) ∙ certificate_text l v text b q)
-
-pub one_fault : (l : LineLaw) (version : Version) (text : List ℕ) (m n : ℕ) (v w : CertWhy) → IsFirstFault version text m v
-    → IsFirstFault version text n w → (m ≡ n) × (v ≡ w)
-one_fault l version text m n v w p q = same_fault m n v w (sym (fault_text l version text m v p) ∙ fault_text l version text n w q)
-
-pub not_both : (l : LineLaw) (v : Version) (text : List ℕ) (c : Cert) (n : ℕ) (w : CertWhy) → IsCertificateText v text c
-    → IsFirstFault v text n w → ⊥
-not_both l v text c n w p q = differ (sym (certificate_text l v text c p) ∙ fault_text l v text n w q)
-  where
-    differ : told c ≡ fault n w → ⊥
-    differ h = cc

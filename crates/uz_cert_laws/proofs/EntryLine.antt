@@ -7,19 +7,18 @@ use Rattle.uz_cert_laws.proofs.Common.{reads, within, one_of, none_in_main, span
 use Rattle.uz_cert_laws.proofs.Common.{register_items, pair_items, flag_items, slot_items, cell_items, listed_items, successor_items}
 use Rattle.uz_cert_laws.proofs.Common.{named_items, named_of, usual_facts, All, AnyPair, line, PlacesAre, word_at, Parts, says, spells}
 use Rattle.uz_cert_laws.proofs.Common.{letters_of_pairs, letters_of_flags, spelled}
-use Rattle.std.proofs.lemmas.List.{length-map}
 use Rattle.uz_schedule.specs.WellFormed.{SpansFit, EntryKindFits, EntryFactsFit, EntryFits}
+use Rattle.uz_cert_laws.proofs.FormLaws.{Fit, SaysFacts, IsReadable, form_again, form_only}
+use Rattle.uz_cert_laws.proofs.Fitting.{each_of_all, all_of_each, all_map, map_back, range_in, SaysRange, says_range, span_back}
+use Rattle.uz_cert_laws.proofs.Fitting.{entry_cell, entry_form_is, spans_in, spans_out, under_none, none_under, none_small}
+use Rattle.std.proofs.lemmas.List.{length-map}
 use Rattle.uz_cert_lines.specs.Lines.{shape_of, entry_of, entry_kind, entry_form}
 use Rattle.uz_cert_writer.specs.Spelling.{range_facts, entry_items, entry_words}
-use Rattle.uz_cert_laws.proofs.FormLaws.{Fit, SaysFacts, IsReadable, form_again, form_only}
-use Rattle.uz_cert_laws.proofs.Fitting.{each_of_all, all_of_each, all_map, map_back, range_in, SaysRange}
-use Rattle.uz_cert_laws.proofs.Fitting.{says_range, span_back, entry_cell, entry_form_is, spans_in, spans_out, under_none, none_under}
-use Rattle.uz_cert_laws.proofs.Fitting.{none_small}
-use Rattle.uz_cert_laws.proofs.Numbers.{is_within as within_so, one_of_so}
+use Rattle.uz_cert_laws.proofs.{Numbers.is_within as within_so, Numbers.one_of_so, Spans.bytes_of, ReadItems.ShapeFits}
+use Rattle.uz_cert_laws.proofs.{ItemForms.cell_form, SpelledItems.FactsFit, Facts.FactIn, Sections.each_length, Sections.each_other}
+use Rattle.uz_cert_laws.proofs.{Tests.both_of, Tests.fine, Tests.true_not, Spelled.registers, Spelled.numbered_cells, Named.say_usuals}
+use Rattle.uz_cert_laws.proofs.{Named.usuals, Named.left_out}
 use Rattle.uz_schedule.specs.{declared.states.Entry.Entry, Tracked.tracked, Tracked.depth_of}
-use Rattle.uz_cert_laws.proofs.{Spans.bytes_of, ReadItems.ShapeFits, ItemForms.cell_form, SpelledItems.FactsFit, Facts.FactIn}
-use Rattle.uz_cert_laws.proofs.{Sections.each_length, Sections.each_other, Tests.both_of, Tests.fine, Tests.true_not}
-use Rattle.uz_cert_laws.proofs.{Spelled.registers, Spelled.numbered_cells, Named.say_usuals, Named.usuals, Named.left_out}
 use Rattle.uz_cert_lines.specs.declared.lines.ParsedLine.TheVariants as parsed
 
 -- an entry after the word for its kind

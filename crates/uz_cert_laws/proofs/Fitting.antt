@@ -1,13 +1,12 @@
 -- What a well formed certificate lets be said of states is what the forms of their lines let in, and the other way round.
 use Rattle.uz_cert_laws.proofs.Common.{◌≡◌, ℕ, suc, ◌+◌, ◌-◌, ◌*◌, ◌/◌, ◌<◌, ◌≤◌, ◌^◌, Bool, true, false, cond, not, ◌&&◌, eqb, leb, List}
 use Rattle.uz_cert_laws.proofs.Common.{[], ◌∷◌, map, length, filter, lit<, lit≤, refl, sym, ◌∙◌, ap, subst, arith, All-nil, All-cons}
-use Rattle.uz_cert_laws.proofs.Common.{All-head, All-tail, Ends, is_within, tracks, RangeFits, FactFits, spans_fit}
-use Rattle.uz_cert_laws.proofs.Common.{Kind, Main, Handler, Alone, Cell, Fact, Any, Between, Line, Loop, Old, OldFlags}
-use Rattle.uz_cert_laws.proofs.Common.{range_fact, is_handler, bytes_forms, none_in_main, span_of_fact}
-use Rattle.uz_cert_laws.proofs.Common.{FactForms, Shape, All}
-use Rattle.uz_schedule.specs.WellFormed.{CellFactFits}
+use Rattle.uz_cert_laws.proofs.Common.{All-head, All-tail, Ends, is_within, tracks, RangeFits, FactFits, spans_fit, Kind, Main, Handler}
+use Rattle.uz_cert_laws.proofs.Common.{Alone, Cell, Fact, Any, Between, Line, Loop, Old, OldFlags, range_fact, is_handler, bytes_forms}
+use Rattle.uz_cert_laws.proofs.Common.{none_in_main, span_of_fact, FactForms, Shape, All}
 use Rattle.uz_cert_laws.proofs.Tests.{and_true, both_true, true_not, le_is, is_le, else_so, number_is, not_le}
 use Rattle.uz_cert_laws.proofs.Facts.{FactIn, handler_is, part_from, part_not_whole, whole_ends}
+use Rattle.uz_schedule.specs.WellFormed.{CellFactFits}
 use Rattle.uz_cert_laws.proofs.{ItemForms.cell_form, Spelled.numbered_cells, Sections.Each, Sections.each_length, Sections.each_other}
 use Rattle.std.proofs.{Common.mul_comm, lemmas.Nat.div_below, lemmas.Nat.le-div}
 

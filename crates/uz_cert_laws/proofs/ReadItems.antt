@@ -2,20 +2,19 @@
 use Rattle.uz_cert_laws.proofs.Common.{◌≡◌, ◌⊎◌, inl, inr, ℕ, zero, suc, ◌+◌, ◌<◌, ◌≤◌, Bool, true, false, cond, not, ◌&&◌, ◌||◌, eqb}
 use Rattle.uz_cert_laws.proofs.Common.{ltb, List, [], ◌∷◌, ◌++◌, map, length, take, drop, get_or, decimal, codes, bytes_eq, lit<, lit≤}
 use Rattle.uz_cert_laws.proofs.Common.{refl, sym, ◌∙◌, ap, subst, append_assoc, append-nil, arith, Ok, slice_set, All-nil, All-head}
-use Rattle.uz_cert_laws.proofs.Common.{PairFits, BitFits, All-tail, decimal_digit, Ends, tracks, RangeFits, is_zero_or_one, is_default_flag}
-use Rattle.uz_cert_laws.proofs.Common.{is_carry_and_zero_default, Kind, Main, Handler, Alone, Cell, Fact, Any, Between, PairFact, Bit}
-use Rattle.uz_cert_laws.proofs.Common.{Words, names_c_or_z, any_names, first_facts, default_flag, is_handler, bytes_forms}
+use Rattle.uz_cert_laws.proofs.Common.{PairFits, BitFits, All-tail, decimal_digit, Ends, tracks, RangeFits, is_zero_or_one}
+use Rattle.uz_cert_laws.proofs.Common.{is_default_flag, is_carry_and_zero_default, Kind, Main, Handler, Alone, Cell, Fact, Any, Between}
+use Rattle.uz_cert_laws.proofs.Common.{PairFact, Bit, Words, names_c_or_z, any_names, first_facts, default_flag, is_handler, bytes_forms}
 use Rattle.uz_cert_laws.proofs.Common.{is_flag_z, tracked_count, take_item, items_from, read_items, FactForms, Shape, Facts, numbers_from}
-use Rattle.uz_cert_laws.proofs.Common.{fact_word, pair_word, flag_word, named_items, named_place, named_of, All}
-use Rattle.uz_cert_laws.proofs.Common.{AnyPair, BetweenPair, LinePair, LoopPair, letters_of_pairs, letters_of_flags, spelled}
+use Rattle.uz_cert_laws.proofs.Common.{fact_word, pair_word, flag_word, named_items, named_place, named_of, All, AnyPair, BetweenPair}
+use Rattle.uz_cert_laws.proofs.Common.{LinePair, LoopPair, letters_of_pairs, letters_of_flags, spelled}
 use Rattle.uz_cert_laws.proofs.Tests.{both_of, and_true, or_false, fine_is, fault_not, true_not, bind_ok, number_is, lt_is}
 use Rattle.uz_cert_laws.proofs.Spelled.{registers, numbered_cells, usual_fact, usual_bit, usual_cell, registers_usual, cells_usual}
 use Rattle.uz_cert_laws.proofs.ItemForms.{with_pair, with_flag, PairForm, FlagForm, HasForm, register, pair, flag, slot, cell, listed}
 use Rattle.uz_cert_laws.proofs.ItemForms.{successor, PlacesFit, cell_form, flag_letter, item_taken}
 use Rattle.uz_cert_laws.proofs.GrowingFacts.{Regular, all_items, values, are_sections, one_more}
-use Rattle.uz_cert_laws.proofs.Sections.{all_empty, Each, each_length, each_map}
-use Rattle.uz_cert_laws.proofs.Facts.{FactIn, part_from}
-use Rattle.uz_cert_laws.proofs.Named.{say_usuals, fresh_usuals, sets_between, sets_other}
+use Rattle.uz_cert_laws.proofs.{Sections.all_empty, Sections.Each, Sections.each_length, Sections.each_map, Facts.FactIn, Facts.part_from}
+use Rattle.uz_cert_laws.proofs.{Named.say_usuals, Named.fresh_usuals, Named.sets_between, Named.sets_other}
 use Rattle.uz_cert_lines.specs.declared.why.CertWhy.TheVariants as why
 
 -- the facts where nothing is said

@@ -1,55 +1,26 @@
 -- All items of a line: what is spelled of facts is read as these facts.
-use Rattle.uz_cert_laws.proofs.Tests.{three_of}
-use Rattle.uz_cert_laws.proofs.Tests.{same_number}
-use Rattle.uz_cert_laws.proofs.Tests.{both_true}
-use Rattle.uz_cert_laws.proofs.Common.{ends}
-use Rattle.uz_cert_laws.proofs.Tests.{given}
-use Rattle.uz_cert_laws.proofs.ReadItems.{tells_flags}
-use Rattle.uz_cert_laws.proofs.Common.{Main, Handler, Alone}
-use Rattle.uz_cert_laws.proofs.Tests.{fine_is}
-use Rattle.uz_cert_laws.proofs.ItemForms.{form_takes}
-use Rattle.uz_cert_laws.proofs.Common.{inr}
-use Rattle.uz_cert_laws.proofs.Common.{CertWhy}
-use Rattle.uz_cert_laws.proofs.Common.{inl}
-use Rattle.uz_cert_laws.proofs.Common.{Result}
-use Rattle.uz_cert_laws.proofs.ReadItems.{TellsFlags}
-use Rattle.uz_cert_laws.proofs.ItemForms.{pair}
-use Rattle.uz_cert_laws.proofs.ItemForms.{listed}
-use Rattle.uz_cert_laws.proofs.ItemForms.{flag}
-use Rattle.uz_cert_laws.proofs.Common.{pair_of}
-use Rattle.uz_cert_laws.proofs.Common.{line}
-use Rattle.uz_cert_laws.proofs.ReadItems.{items_only}
-use Rattle.uz_cert_laws.proofs.Named.{sets_between}
-use Rattle.uz_cert_laws.proofs.ItemForms.{successor}
-use Rattle.uz_cert_laws.proofs.ItemForms.{slot}
-use Rattle.uz_cert_laws.proofs.ItemForms.{register}
-use Rattle.uz_cert_laws.proofs.ItemForms.{cell}
-use Rattle.uz_cert_laws.proofs.ItemForms.{HasForm}
-use Rattle.uz_cert_laws.proofs.Common.{is_carry_and_zero_default}
-use Rattle.uz_cert_laws.proofs.Common.{PairFits}
-use Rattle.uz_cert_laws.proofs.Common.{BitFits}
-use Rattle.uz_cert_laws.proofs.Common.{◌≡◌, ℕ, zero, suc, ◌+◌, ◌<◌, ◌≤◌, Bool, true, false, cond, not, ◌&&◌, ◌||◌, eqb, leb, ltb, List}
-use Rattle.uz_cert_laws.proofs.Common.{[], ◌∷◌, ◌++◌, map, length, take, get_or, decimal, codes, bytes_eq, lit<, lit≤, refl, sym, ◌∙◌, ap}
-use Rattle.uz_cert_laws.proofs.Common.{subst, append_assoc, append-nil, add-one, length-append, arith, Some, Ok, Err, slice_get}
-use Rattle.uz_cert_laws.proofs.Common.{slice_set, All-head, All-tail, decimal_digit, rises_from, rises, tracks, is_zero_or_one}
+use Rattle.uz_cert_laws.proofs.Tests.{three_of, same_number, both_true, given, fine_is, and_true, or_false, fine, fault_not, true_not}
+use Rattle.uz_cert_laws.proofs.Tests.{refuted, neither, then, le_is, word_is, is_lt, is_not_lt}
+use Rattle.uz_cert_laws.proofs.Common.{ends, Main, Handler, Alone, inr, CertWhy, inl, Result, pair_of, line, is_carry_and_zero_default}
+use Rattle.uz_cert_laws.proofs.Common.{PairFits, BitFits, ◌≡◌, ℕ, zero, suc, ◌+◌, ◌<◌, ◌≤◌, Bool, true, false, cond, not, ◌&&◌, ◌||◌, eqb}
+use Rattle.uz_cert_laws.proofs.Common.{leb, ltb, List, [], ◌∷◌, ◌++◌, map, length, take, get_or, decimal, codes, bytes_eq, lit<, lit≤}
+use Rattle.uz_cert_laws.proofs.Common.{refl, sym, ◌∙◌, ap, subst, append_assoc, append-nil, add-one, length-append, arith, Some, Ok, Err}
+use Rattle.uz_cert_laws.proofs.Common.{slice_get, slice_set, All-head, All-tail, decimal_digit, rises_from, rises, tracks, is_zero_or_one}
 use Rattle.uz_cert_laws.proofs.Common.{is_default_flag, Kind, Cell, Fact, PairFact, Bit, Zero, One, Free, raw_of, range, one_number}
-use Rattle.uz_cert_laws.proofs.Common.{is_default, is_any_pair, first_facts, bytes_forms, pair_forms, tracked_count}
-use Rattle.uz_cert_laws.proofs.Common.{names_c_or_z, any_names, tracked_before, is_flag_z, take_item, items_from, read_items, Raw, Shape}
-use Rattle.uz_cert_laws.proofs.Common.{Facts, numbers_from, register_item, pair_item, flag_item, fact_word, pair_word}
-use Rattle.uz_cert_laws.proofs.Common.{flag_word}
-use Rattle.uz_cert_laws.proofs.Common.{named_items, named_place, successors_place, NamedValues, named_of, with_named, All, AnyPair}
-use Rattle.uz_cert_laws.proofs.Common.{BetweenPair, OldBit, letters_of_pairs, letters_of_flags, spelled}
-use Rattle.uz_cert_laws.proofs.Named.{or_second, Say, usuals, listed_read}
-use Rattle.uz_cert_laws.proofs.Tests.{and_true, or_false, fine, fault_not, true_not, refuted, neither, then, le_is, word_is}
-use Rattle.uz_cert_laws.proofs.Tests.{is_lt, is_not_lt}
-use Rattle.uz_cert_laws.proofs.Facts.{FactIn, pair_so, one_raw}
+use Rattle.uz_cert_laws.proofs.Common.{is_default, is_any_pair, first_facts, bytes_forms, pair_forms, tracked_count, names_c_or_z}
+use Rattle.uz_cert_laws.proofs.Common.{any_names, tracked_before, is_flag_z, take_item, items_from, read_items, Raw, Shape, Facts}
+use Rattle.uz_cert_laws.proofs.Common.{numbers_from, register_item, pair_item, flag_item, fact_word, pair_word, flag_word, named_items}
+use Rattle.uz_cert_laws.proofs.Common.{named_place, successors_place, NamedValues, named_of, with_named, All, AnyPair, BetweenPair}
+use Rattle.uz_cert_laws.proofs.Common.{OldBit, letters_of_pairs, letters_of_flags, spelled}
+use Rattle.uz_cert_laws.proofs.ReadItems.{tells_flags, TellsFlags, items_only, ShapeFits, IsMeant}
+use Rattle.uz_cert_laws.proofs.ItemForms.{form_takes, pair, listed, flag, successor, slot, register, cell, HasForm, cell_form}
+use Rattle.uz_cert_laws.proofs.ItemForms.{pair_letter, flag_letter}
 use Rattle.uz_cert_laws.proofs.Spelled.{pair_usual_only, registers, numbered_cells, in_range, cell_word, usual_fact, usual_pair}
 use Rattle.uz_cert_laws.proofs.Spelled.{usual_bit, usual_cell, registers_usual, cells_usual, register_only, flag_usual_only}
 use Rattle.uz_cert_laws.proofs.Spelled.{range_only_usual}
-use Rattle.uz_cert_laws.proofs.ItemForms.{cell_form, pair_letter, flag_letter}
 use Rattle.uz_cert_laws.proofs.GrowingFacts.{registers_list, pairs_list, flags_list, cells_list}
-use Rattle.uz_cert_laws.proofs.ReadItems.{ShapeFits, IsMeant}
-use Rattle.uz_cert_laws.proofs.Sections.{Each, Ordered, options_read}
+use Rattle.uz_cert_laws.proofs.{Named.sets_between, Named.or_second, Named.Say, Named.usuals, Named.listed_read, Facts.FactIn}
+use Rattle.uz_cert_laws.proofs.{Facts.pair_so, Facts.one_raw, Sections.Each, Sections.Ordered, Sections.options_read}
 use Rattle.uz_cert_lines.specs.declared.values.Raw.TheVariants as raw
 use Rattle.uz_cert_lines.specs.declared.why.CertWhy.TheVariants as why
 
