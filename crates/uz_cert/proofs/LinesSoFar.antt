@@ -1,19 +1,18 @@
 -- The lines that were read are those that are spelled of what was read: each line that is due adds its own.
-use Rattle.uz_cert_laws.proofs.Tests.{both_of}
 use Rattle.uz_cert.proofs.Common.{◌≡◌, inl, inr, ℕ, zero, suc, ◌+◌, ◌-◌, ◌<◌, ◌≤◌, Bool, true, false, ◌&&◌, cond, eqb, List, [], ◌∷◌}
 use Rattle.uz_cert.proofs.Common.{◌++◌, length, map, decimal, refl, sym, ◌∙◌, ap, append_assoc, append-nil, subst, zero-add, arith}
 use Rattle.uz_cert.proofs.Common.{length-append, Option, Some, None, ⊤, map-append, is_length, clocks_below, lengths_fit, Cell, Event}
 use Rattle.uz_cert.proofs.Common.{Entry, ParsedLine, Version, and_true, not_number, line_of, runs_of, lacks, draft_after, Kept, SaidFits}
 use Rattle.uz_cert.proofs.Common.{EventSaid, cert_from, KindLine, scanline, Cert, expected_as, Draft}
-use Rattle.std.proofs.Common.{take, codes}
-use Rattle.uz_cert_laws.specs.LineWords.{sizes_words, response_words, stack_line_words}
-use Rattle.uz_cert_laws.proofs.Tests.{so, else_so, number_is}
 use Rattle.uz_cert_writer.specs.Spelling.{cell_words, kind_words, event_words, run_words, rest_words, entry_words, point_words}
 use Rattle.uz_cert_writer.specs.Spelling.{kinds_then, size_words, irq_words, stack_words, schedule_lines, state_lines}
-use Rattle.uz_cert.specs.Kept.{Later}
 use Rattle.uz_cert.proofs.SpelledText.{spelled, with_event, with_last, event_next, last_next}
-use Rattle.uz_cert.proofs.ExpectedLineLaws.{not_equal, IsExpected, IsWhole}
-use Rattle.uz_cert.proofs.{KeptLaws.none, Runs.runs_more}
+use Rattle.uz_cert_laws.proofs.Tests.{both_of, so, else_so, number_is}
+use Rattle.std.proofs.Common.{take, codes}
+use Rattle.uz_cert_laws.specs.LineWords.{sizes_words, response_words, stack_line_words}
+use Rattle.uz_cert.specs.Kept.{Later}
+use Rattle.uz_cert.proofs.{ExpectedLineLaws.not_equal, ExpectedLineLaws.IsExpected, ExpectedLineLaws.IsWhole, KeptLaws.none}
+use Rattle.uz_cert.proofs.{Runs.runs_more}
 use Rattle.uz_cert_lines.specs.declared.lines.ParsedLine.TheVariants as parsed
 
 abbrev Lines : Type 0

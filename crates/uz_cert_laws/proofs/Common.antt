@@ -3,7 +3,7 @@ pub use Rattle.std.proofs.Common.{Bool, List, [], add-one, ap, append-nil, appen
 pub use Rattle.std.proofs.Common.{false, filter, get_or, inl, inr, leb, length, length-append, lit<, lit≤, ltb, map, negsuc, not, pos}
 pub use Rattle.std.proofs.Common.{refl, subst, suc, sym, take, true, zero, ℕ, ℤ, ◌&&◌, ◌*◌, ◌++◌, ◌+◌, ◌-◌, ◌/◌, ◌<◌, ◌^◌, ◌||◌, ◌∙◌, ◌∷◌}
 pub use Rattle.std.proofs.Common.{◌≡◌, ◌≢◌, ◌≤◌, ◌⊎◌}
-pub use Rattle.std.proofs.lemmas.List.Elements.{All-cons, All-head, All-nil, All-tail}
+pub use Rattle.std.proofs.lemmas.List.Elements.{All-cons, All-head, All-map, All-nil, All-tail, All-weaker}
 pub use Rattle.std.specs.Prelude.{All, Err, None, Ok, Option, Result, Some, slice_get, slice_set, ⊤}
 pub use Rattle.uz_cert_laws.specs.LineWords.{PlacesAre, line}
 pub use Rattle.uz_cert_laws.specs.Spells.{Parts, letters_of_flags, letters_of_pairs, says, spelled, spells, word_at}

@@ -80,33 +80,6 @@ told_only {B} {read} r name make spelled fits w x e =
     let n = r.only w m.0 m.1 in
     subst (Tells name w) (fine_is (make m.0) x m.2) (ap (λ t. name ++ 58 ∷ t) n.0 ∙ spelled m.0, fits m.0 n.1)
 
-value_only : (w : List ℕ) (x : Compared) → value_told w ≡ Ok x → Tells (codes "tst") w x
-unfolding value_told
-value_only w x e = told_only (one_read 32 (lit≤ tt)) (codes "tst") (λ d. told.Value d) (λ n. refl) (λ n h. h) w x e
-
-register_only : (w : List ℕ) (x : Compared) → register_told w ≡ Ok x → Tells (codes "cp") w x
-unfolding register_told
-register_only w x e =
-    told_only (two_read 32 32 (lit≤ tt) (lit≤ tt)) (codes "cp") (λ n. told.Byte n.0 (Register n.1)) (λ n. refl) (λ n h. h) w x e
-
-constant_only : (w : List ℕ) (x : Compared) → constant_told w ≡ Ok x → Tells (codes "cpi") w x
-unfolding constant_told
-constant_only w x e =
-    told_only (two_read 32 256 (lit≤ tt) (lit≤ tt)) (codes "cpi") (λ n. told.Byte n.0 (Constant n.1)) (λ n. refl)
-    (λ n h. (h.0, omega (arith, h.1))) w x e
-
-registers_only : (w : List ℕ) (x : Compared) → registers_told w ≡ Ok x → Tells (codes "cpw") w x
-unfolding registers_told
-registers_only w x e =
-    told_only (three_read 31 32 32 (lit≤ tt) (lit≤ tt) (lit≤ tt)) (codes "cpw") (λ n. told.Pair n.0 (Register n.1.0) n.1.1) (λ n. refl)
-    (λ n h. (h.0, h.1.0, h.1.1)) w x e
-
-constants_only : (w : List ℕ) (x : Compared) → constants_told w ≡ Ok x → Tells (codes "cpiw") w x
-unfolding constants_told
-constants_only w x e =
-    told_only (three_read 31 256 32 (lit≤ tt) (lit≤ tt) (lit≤ tt)) (codes "cpiw") (λ n. told.Pair n.0 (Constant n.1.0) n.1.1) (λ n. refl)
-    (λ n h. (h.0, omega (arith, h.1.0), h.1.1)) w x e
-
 -- a register, a constant below a limit, and the ends of a range that are below it too
 abbrev Ranged : Type 0
 Ranged = ℕ × (ℕ × (ℕ × ℕ))
@@ -124,38 +97,40 @@ ranged_only a top la lt name make spelled fits w x e =
       fits m.0 n.1.0 (omega (arith, n.1.1.0)) (record { order = le_is m.0.1.1.0 m.0.1.1.1 p.0; high = omega (arith, n.1.1.1.1) }),
     )
 
-result_only : (w : List ℕ) (x : Compared) → result_told w ≡ Ok x → Tells (codes "sub") w x
-unfolding result_told
-result_only w x e =
-    ranged_only 32 255 (lit≤ tt) (lit≤ tt) (codes "sub") (λ n. told.Result n.0 n.1.0 (ends n.1.1.0 n.1.1.1)) (λ n. refl)
-    (λ n h k r. (h, k, r)) w x e
-
-results_only : (w : List ℕ) (x : Compared) → results_told w ≡ Ok x → Tells (codes "subw") w x
-unfolding results_told
-results_only w x e =
-    ranged_only 31 65535 (lit≤ tt) (lit≤ tt) (codes "subw") (λ n. told.PairResult n.0 n.1.0 (ends n.1.1.0 n.1.1.1)) (λ n. refl)
-    (λ n h k r. (h, k, r)) w x e
-
 -- the names
 
 named_at : (name wanted w : List ℕ) (x : Compared) → bytes_eq name wanted ≡ true → Tells wanted w x → Tells name w x
 named_at name wanted w x t h = subst (λ (v : List ℕ). Tells v w x) (sym (word_is name wanted t)) h
 
 pair_only : (name w : List ℕ) (x : Compared) → pair_named name w ≡ Ok x → Tells name w x
-unfolding pair_named
+unfolding pair_named registers_told constants_told results_told
 pair_only name w x e =
-    tested (bytes_eq name (codes "cpw")) e (λ t e. named_at name (codes "cpw") w x t (registers_only w x e))
-    (λ _ e. tested (bytes_eq name (codes "cpiw")) e (λ t e. named_at name (codes "cpiw") w x t (constants_only w x e))
-    (λ _ e. tested (bytes_eq name (codes "subw")) e (λ t e. named_at name (codes "subw") w x t (results_only w x e))
+    tested (bytes_eq name (codes "cpw")) e
+    (λ t e. named_at name (codes "cpw") w x t (told_only (three_read 31 32 32 (lit≤ tt) (lit≤ tt) (lit≤ tt)) (codes "cpw")
+    (λ n. told.Pair n.0 (Register n.1.0) n.1.1) (λ n. refl) (λ n h. (h.0, h.1.0, h.1.1)) w x e))
+    (λ _ e. tested (bytes_eq name (codes "cpiw")) e
+    (λ t e. named_at name (codes "cpiw") w x t (told_only (three_read 31 256 32 (lit≤ tt) (lit≤ tt) (lit≤ tt)) (codes "cpiw")
+    (λ n. told.Pair n.0 (Constant n.1.0) n.1.1) (λ n. refl) (λ n h. (h.0, omega (arith, h.1.0), h.1.1)) w x e))
+    (λ _ e. tested (bytes_eq name (codes "subw")) e
+    (λ t e. named_at name (codes "subw") w x t (ranged_only 31 65535 (lit≤ tt) (lit≤ tt) (codes "subw")
+    (λ n. told.PairResult n.0 n.1.0 (ends n.1.1.0 n.1.1.1)) (λ n. refl) (λ n h k r. (h, k, r)) w x e))
     (λ _ e. absurd (fault_not why.Word x e))))
 
 name_only : (name w : List ℕ) (x : Compared) → comparison_named name w ≡ Ok x → Tells name w x
-unfolding comparison_named
+unfolding comparison_named value_told register_told constant_told result_told
 name_only name w x e =
-    tested (bytes_eq name (codes "tst")) e (λ t e. named_at name (codes "tst") w x t (value_only w x e))
-    (λ _ e. tested (bytes_eq name (codes "cp")) e (λ t e. named_at name (codes "cp") w x t (register_only w x e))
-    (λ _ e. tested (bytes_eq name (codes "cpi")) e (λ t e. named_at name (codes "cpi") w x t (constant_only w x e))
-    (λ _ e. tested (bytes_eq name (codes "sub")) e (λ t e. named_at name (codes "sub") w x t (result_only w x e))
+    tested (bytes_eq name (codes "tst")) e
+    (λ t e. named_at name (codes "tst") w x t
+    (told_only (one_read 32 (lit≤ tt)) (codes "tst") (λ d. told.Value d) (λ n. refl) (λ n h. h) w x e))
+    (λ _ e. tested (bytes_eq name (codes "cp")) e
+    (λ t e. named_at name (codes "cp") w x t
+    (told_only (two_read 32 32 (lit≤ tt) (lit≤ tt)) (codes "cp") (λ n. told.Byte n.0 (Register n.1)) (λ n. refl) (λ n h. h) w x e))
+    (λ _ e. tested (bytes_eq name (codes "cpi")) e
+    (λ t e. named_at name (codes "cpi") w x t (told_only (two_read 32 256 (lit≤ tt) (lit≤ tt)) (codes "cpi")
+    (λ n. told.Byte n.0 (Constant n.1)) (λ n. refl) (λ n h. (h.0, omega (arith, h.1))) w x e))
+    (λ _ e. tested (bytes_eq name (codes "sub")) e
+    (λ t e. named_at name (codes "sub") w x t (ranged_only 32 255 (lit≤ tt) (lit≤ tt) (codes "sub")
+    (λ n. told.Result n.0 n.1.0 (ends n.1.1.0 n.1.1.1)) (λ n. refl) (λ n h k r. (h, k, r)) w x e))
     (λ _ e. pair_only name w x e))))
 
 pub comparison_only : (w : List ℕ) (x : Compared) → comparison w ≡ Ok x → (w ≡ comparison_word x) × ComparedFits x

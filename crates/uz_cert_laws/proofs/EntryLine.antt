@@ -1,9 +1,9 @@
 -- The line of an entry.
-use Rattle.uz_cert_laws.proofs.Common.{◌≡◌, ℕ, zero, suc, ◌<◌, ◌≤◌, Bool, true, false, cond, ◌&&◌, eqb, List, [], ◌∷◌, ◌++◌, map, length}
-use Rattle.uz_cert_laws.proofs.Common.{decimal, codes, lit≤, refl, sym, ◌∙◌, ap, subst, append-nil, arith, Ok, All-nil, All-cons}
-use Rattle.uz_cert_laws.proofs.Common.{All-head, All-tail, Ends, clock_limit, RangeFits, CellFits, BitFits, Kind, Main, Handler, Alone}
-use Rattle.uz_cert_laws.proofs.Common.{Cell, Head, Fact, Words, choice_of, range_fact, is_handler, bytes_forms, LineForm, number, items}
-use Rattle.uz_cert_laws.proofs.Common.{reads, within, one_of, none_in_main, span_of_fact, FactForms, Facts, ParsedLine, kind_word}
+use Rattle.uz_cert_laws.proofs.Common.{All-weaker, ◌≡◌, ℕ, zero, suc, ◌<◌, ◌≤◌, Bool, true, false, cond, ◌&&◌, eqb, List, [], ◌∷◌, ◌++◌}
+use Rattle.uz_cert_laws.proofs.Common.{map, length, decimal, codes, lit≤, refl, sym, ◌∙◌, ap, subst, append-nil, arith, Ok, All-nil}
+use Rattle.uz_cert_laws.proofs.Common.{All-cons, All-head, All-tail, Ends, clock_limit, RangeFits, CellFits, BitFits, Kind, Main, Handler}
+use Rattle.uz_cert_laws.proofs.Common.{Alone, Cell, Head, Fact, Words, choice_of, range_fact, is_handler, bytes_forms, LineForm, number}
+use Rattle.uz_cert_laws.proofs.Common.{items, reads, within, one_of, none_in_main, span_of_fact, FactForms, Facts, ParsedLine, kind_word}
 use Rattle.uz_cert_laws.proofs.Common.{register_items, pair_items, flag_items, slot_items, cell_items, listed_items, successor_items}
 use Rattle.uz_cert_laws.proofs.Common.{named_items, named_of, usual_facts, All, AnyPair, line, PlacesAre, word_at, Parts, says, spells}
 use Rattle.uz_cert_laws.proofs.Common.{letters_of_pairs, letters_of_flags, spelled}
@@ -30,9 +30,7 @@ entry_after h lines points kind =
     items (shape_of h kind true points) h.cells.items (λ f. parsed.Entry (entry_of kind id pc line clock f))))))
 
 pub ranges_of : (h : Head) (cells : List Cell) → All (CellFits h) cells → All (λ c. RangeFits 255 c.range) cells
-ranges_of h [] a = All-nil (λ c. RangeFits 255 c.range)
-ranges_of h (c ∷ cs) a =
-    All-cons (λ c. RangeFits 255 c.range) c cs (All-head (CellFits h) c cs a).range (ranges_of h cs (All-tail (CellFits h) c cs a))
+ranges_of h cells a = All-weaker (CellFits h) (λ c. RangeFits 255 c.range) (λ c f. f.range) cells a
 
 pub shape_fits : (h : Head) (lines points : ℕ) (kind : Kind) (plain : Bool) → PlacesAre h lines points → (kind ≡ Handler → plain ≡ false)
     → ShapeFits (shape_of h kind plain points) h.cells.items

@@ -1,9 +1,9 @@
 -- What a well formed certificate lets be said of states is what the forms of their lines let in, and the other way round.
-use Rattle.uz_cert_laws.proofs.Common.{◌≡◌, ℕ, suc, ◌+◌, ◌-◌, ◌*◌, ◌/◌, ◌<◌, ◌≤◌, ◌^◌, Bool, true, false, cond, not, ◌&&◌, eqb, leb, List}
-use Rattle.uz_cert_laws.proofs.Common.{[], ◌∷◌, map, length, filter, lit<, lit≤, refl, sym, ◌∙◌, ap, subst, arith, All-nil, All-cons}
-use Rattle.uz_cert_laws.proofs.Common.{All-head, All-tail, Ends, is_within, tracks, RangeFits, FactFits, spans_fit, Kind, Main, Handler}
-use Rattle.uz_cert_laws.proofs.Common.{Alone, Cell, Fact, Any, Between, Line, Loop, Old, OldFlags, range_fact, is_handler, bytes_forms}
-use Rattle.uz_cert_laws.proofs.Common.{none_in_main, span_of_fact, FactForms, Shape, All}
+use Rattle.uz_cert_laws.proofs.Common.{All-weaker, All-map, ◌≡◌, ℕ, suc, ◌+◌, ◌-◌, ◌*◌, ◌/◌, ◌<◌, ◌≤◌, ◌^◌, Bool, true, false, cond, not}
+use Rattle.uz_cert_laws.proofs.Common.{◌&&◌, eqb, leb, List, [], ◌∷◌, map, length, filter, lit<, lit≤, refl, sym, ◌∙◌, ap, subst, arith}
+use Rattle.uz_cert_laws.proofs.Common.{All-nil, All-cons, All-head, All-tail, Ends, is_within, tracks, RangeFits, FactFits, spans_fit}
+use Rattle.uz_cert_laws.proofs.Common.{Kind, Main, Handler, Alone, Cell, Fact, Any, Between, Line, Loop, Old, OldFlags, range_fact}
+use Rattle.uz_cert_laws.proofs.Common.{is_handler, bytes_forms, none_in_main, span_of_fact, FactForms, Shape, All}
 use Rattle.uz_cert_laws.proofs.Tests.{and_true, both_true, true_not, le_is, is_le, else_so, number_is, not_le}
 use Rattle.uz_cert_laws.proofs.Facts.{FactIn, handler_is, part_from, part_not_whole, whole_ends}
 use Rattle.uz_schedule.specs.WellFormed.{CellFactFits}
@@ -24,14 +24,9 @@ all_of_each P [] (x ∷ xs) h = absurd h
 all_of_each P (k ∷ ks) [] h = absurd h
 all_of_each P (k ∷ ks) (x ∷ xs) h = All-cons P x xs h.0 (all_of_each P ks xs h.1)
 
-pub all_other : {A : Type 0} (P Q : A → Type 0) (xs : List A) → ((x : A) → P x → Q x) → All P xs → All Q xs
-all_other P Q [] f h = All-nil Q
-all_other P Q (x ∷ xs) f h = All-cons Q x xs (f x (All-head P x xs h)) (all_other P Q xs f (All-tail P x xs h))
-
 pub all_map : {A B : Type 0} (P : A → Type 0) (Q : B → Type 0) (f : A → B) (xs : List A) → ((x : A) → P x → Q (f x)) → All P xs
     → All Q (map f xs)
-all_map P Q f [] g h = All-nil Q
-all_map P Q f (x ∷ xs) g h = All-cons Q (f x) (map f xs) (g x (All-head P x xs h)) (all_map P Q f xs g (All-tail P x xs h))
+all_map P Q f xs g h = All-map Q f xs (All-weaker P (λ x. Q (f x)) g xs h)
 
 pub map_back : {A B : Type 0} (P : A → Type 0) (f : A → B) (g : B → A) (xs : List A) → ((x : A) → P x → g (f x) ≡ x) → All P xs
     → map g (map f xs) ≡ xs

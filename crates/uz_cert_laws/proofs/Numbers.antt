@@ -50,26 +50,18 @@ asked_so a n h =
     hole : (n < a.hole) ⊎ (a.hole_end ≤ n) → (leb a.hole n && ltb n a.hole_end) ≡ false
     hole d = grind (arith, nat_tests)
 
-number_by : (a : NumberBounds) (w : List ℕ) (o : Option ℕ) (t : Bool) (n : ℕ) → number_within a.low a.limit w ≡ o → number_or a t o ≡ Ok n
-    → (m : ℕ) × (number_within a.low a.limit w ≡ Some m) × (asked a m ≡ Ok n)
-number_by a w None true n e f = absurd cc
-number_by a w None false n e f = absurd cc
-number_by a w (Some m) t n e f = (m, e, f)
-
 -- what is read is the number's decimal text
 pub number_only : (a : NumberBounds) (w : List ℕ) (n : ℕ) → a.limit ≤ 2 ^ 32 → number_of a w ≡ Ok n → (w ≡ decimal n) × IsWithin a n
 unfolding number_of
-number_only a w n h e =
-    let some = number_by a w (number_within a.low a.limit w) (is_numeral w) n refl e in
-    let word = within_read a.low a.limit some.0 w h some.1 in
-    let is = asked_is a some.0 n some.2 in
-    at_n some.0 is.0 word is
+number_only a w n h e = by_number (number_within a.low a.limit w) (is_numeral w) refl e
   where
-    at_n : (m : ℕ) → m ≡ n → (w ≡ decimal m) × (a.low ≤ m) × (m < a.limit)
-        → (m ≡ n) × ((m < a.hole) ⊎ (a.hole_end ≤ m)) × (a.least ≤ m) × (m ≢ a.other)
-        → (w ≡ decimal n) × IsWithin a n
-    at_n m same word is =
-        subst (λ k. (w ≡ decimal k) × IsWithin a k) same
+    by_number : (o : Option ℕ) (t : Bool) → number_within a.low a.limit w ≡ o → number_or a t o ≡ Ok n → (w ≡ decimal n) × IsWithin a n
+    by_number None true e f = absurd cc
+    by_number None false e f = absurd cc
+    by_number (Some m) t e f =
+        let word = within_read a.low a.limit m w h e in
+        let is = asked_is a m n f in
+        subst (λ k. (w ≡ decimal k) × IsWithin a k) is.0
         (word.0, record { low = word.1; below = word.2; outside = is.1; least = is.2; other = is.3 })
 
 pub number_so : (a : NumberBounds) (n : ℕ) → a.limit ≤ 2 ^ 32 → IsWithin a n → number_of a (decimal n) ≡ Ok n

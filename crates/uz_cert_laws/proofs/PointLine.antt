@@ -1,20 +1,20 @@
 -- The line of a point.
-use Rattle.uz_cert_laws.proofs.Common.{◌≡◌, ℕ, zero, suc, ◌+◌, ◌-◌, ◌*◌, ◌/◌, ◌<◌, ◌≤◌, ◌^◌, Bool, true, false, ◌&&◌, ◌||◌, eqb, List, []}
-use Rattle.uz_cert_laws.proofs.Common.{◌∷◌, decimal, codes, get_or, lit<, lit≤, refl, sym, ◌∙◌, ap, subst, arith, Ok, decimal_digit}
-use Rattle.uz_cert_laws.proofs.Common.{clock_limit, scanline, RangeFits, FactFits, PairFits, BitFits, magnitude, is_zero_or_one}
-use Rattle.uz_cert_laws.proofs.Common.{is_carry_and_zero_default, Kind, Main, Handler, Alone, Head, Words, choice_of, is_handler}
-use Rattle.uz_cert_laws.proofs.Common.{bytes_forms, reads, none_in_main, Facts, ParsedLine, Version, First, Second, Third, kind_word}
-use Rattle.uz_cert_laws.proofs.Common.{Option, None, signed_word, named_items, named_of, with_named, usual_facts, Shape, ℤ, pos, negsuc}
-use Rattle.uz_cert_laws.proofs.Common.{ComparedFits, SplitFits, Compared, AnyPair, line, PlacesAre, word_at, Parts, says, spells}
-use Rattle.uz_cert_laws.proofs.Common.{letters_of_pairs, letters_of_flags, spelled}
+use Rattle.uz_cert_laws.proofs.Common.{All-weaker, ◌≡◌, ℕ, zero, suc, ◌+◌, ◌-◌, ◌*◌, ◌/◌, ◌<◌, ◌≤◌, ◌^◌, Bool, true, false, ◌&&◌, ◌||◌}
+use Rattle.uz_cert_laws.proofs.Common.{eqb, List, [], ◌∷◌, decimal, codes, get_or, lit<, lit≤, refl, sym, ◌∙◌, ap, subst, arith, Ok}
+use Rattle.uz_cert_laws.proofs.Common.{decimal_digit, clock_limit, scanline, RangeFits, FactFits, PairFits, BitFits, magnitude}
+use Rattle.uz_cert_laws.proofs.Common.{is_zero_or_one, is_carry_and_zero_default, Kind, Main, Handler, Alone, Head, Words, choice_of}
+use Rattle.uz_cert_laws.proofs.Common.{is_handler, bytes_forms, reads, none_in_main, Facts, ParsedLine, Version, First, Second, Third}
+use Rattle.uz_cert_laws.proofs.Common.{kind_word, Option, None, signed_word, named_items, named_of, with_named, usual_facts, Shape, ℤ}
+use Rattle.uz_cert_laws.proofs.Common.{pos, negsuc, ComparedFits, SplitFits, Compared, AnyPair, line, PlacesAre, word_at, Parts, says}
+use Rattle.uz_cert_laws.proofs.Common.{spells, letters_of_pairs, letters_of_flags, spelled}
 use Rattle.uz_schedule.specs.WellFormed.{CoreFits, MemoryFits, PointFits, PointKindFits, IsAtBegin, IsTimerLeftOut, instances_of}
 use Rattle.uz_schedule.specs.WellFormed.{IsWithoutRules, RulesFit}
 use Rattle.uz_cert_lines.specs.Lines.{is_timed, is_compared, point_shape, IsPointIn, point_kind, pending_limit, count_limit, point_after}
 use Rattle.uz_cert_lines.specs.Lines.{point_form}
 use Rattle.uz_cert_laws.proofs.Numbers.{is_within as within_so, under_both, both_under, least_small}
 use Rattle.uz_cert_laws.proofs.FormLaws.{Fit, SaysFacts, IsReadable, form_again, form_only}
-use Rattle.uz_cert_laws.proofs.Fitting.{each_of_all, all_of_each, all_other, fact_in, fact_out, cells_in, cells_out, under_none}
-use Rattle.uz_cert_laws.proofs.Fitting.{none_under, none_small, box_under, under_box}
+use Rattle.uz_cert_laws.proofs.Fitting.{each_of_all, all_of_each, fact_in, fact_out, cells_in, cells_out, under_none, none_under}
+use Rattle.uz_cert_laws.proofs.Fitting.{none_small, box_under, under_box}
 use Rattle.uz_schedule.specs.{declared.kinds.RuleVersion.TheVariants.Two, declared.kinds.RuleVersion.TheVariants.Three, Limits.is_top}
 use Rattle.uz_schedule.specs.{Ends.whole_byte, Schedule.half_line, declared.states.Point.Point, declared.kinds.RuleVersion.RuleVersion}
 use Rattle.uz_schedule.specs.{declared.facts.Compared.TheVariants.Nothing}
@@ -112,11 +112,11 @@ point_sayable version h lines points p f o =
     let rules = rules_in h.version p.kind p f.rules in
     record {
       regs_fit = each_of_all (FactIn (bytes_forms shape)) registers p.regs f.core.register_count
-          (all_other (FactFits p.kind) (FactIn (bytes_forms shape)) p.regs (λ x i. fact_in shape x refl i) f.core.registers);
+          (All-weaker (FactFits p.kind) (FactIn (bytes_forms shape)) (λ x i. fact_in shape x refl i) p.regs f.core.registers);
       pairs_fit = each_of_all PairFits letters_of_pairs p.pairs f.core.pair_count f.core.pairs;
       flags_fit = each_of_all (BitFits p.kind) letters_of_flags p.flags f.core.flag_count f.core.flags;
       slots_fit = f.memory.slots;
-      stack_fit = all_other (FactFits p.kind) (FactIn (bytes_forms shape)) p.stack.items (λ x i. fact_in shape x refl i) f.memory.stack;
+      stack_fit = All-weaker (FactFits p.kind) (FactIn (bytes_forms shape)) (λ x i. fact_in shape x refl i) p.stack.items f.memory.stack;
       cells_fit = cells_in shape h.cells.items p.cells.items refl f.memory.cell_count f.memory.cells;
       listed_fit = (
         ((point_top p.kind p f.kind, top_below p.top (point_top p.kind p f.kind)), λ u. (point_untimed version p.kind p f.kind o u).top),
@@ -363,7 +363,7 @@ core_fits version h points at f r =
     let shape = point_shape version h kind points in
     record {
       register_count = each_length (λ k x. FactIn (bytes_forms shape) x) registers f.regs r.regs_fit;
-      registers = all_other (FactIn (bytes_forms shape)) (FactFits kind) f.regs (fact_out shape)
+      registers = All-weaker (FactIn (bytes_forms shape)) (FactFits kind) (fact_out shape) f.regs
           (all_of_each (FactIn (bytes_forms shape)) registers f.regs r.regs_fit);
       pair_count = each_length (λ k x. PairFits x) letters_of_pairs f.pairs r.pairs_fit;
       pairs = all_of_each PairFits letters_of_pairs f.pairs r.pairs_fit;
@@ -381,7 +381,7 @@ memory_fits version h points at f r =
     let cells = cells_out shape h.cells.items f.cells.items refl r.cells_fit in
     record {
       slots = r.slots_fit;
-      stack = all_other (FactIn (bytes_forms shape)) (FactFits at.kind) f.stack.items (fact_out shape) r.stack_fit;
+      stack = All-weaker (FactIn (bytes_forms shape)) (FactFits at.kind) (fact_out shape) f.stack.items r.stack_fit;
       cell_count = cells.0;
       cells = cells.1;
     }

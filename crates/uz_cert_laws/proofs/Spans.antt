@@ -1,10 +1,10 @@
 -- Ranges for the cells of the handler, one word for each.
-use Rattle.uz_cert_laws.proofs.Common.{◌≡◌, ℕ, ◌≤◌, Bool, true, false, cond, List, [], ◌∷◌, ◌++◌, map, filter, refl, ◌∙◌, ap, subst}
-use Rattle.uz_cert_laws.proofs.Common.{Result, Ok, All-nil, All-cons, All-head, All-tail, Ends, is_within, tracks, RangeFits, CellFits}
-use Rattle.uz_cert_laws.proofs.Common.{spans_fit, Handler, Cell, Head, ◌>>=◌, Words, rest_of, next_as, span_of, spans_of, CertWhy}
-use Rattle.uz_cert_laws.proofs.Common.{ends_word, All, line}
-use Rattle.uz_cert_lines.specs.Forms.{with_span}
+use Rattle.uz_cert_laws.proofs.Common.{All-weaker, ◌≡◌, ℕ, ◌≤◌, Bool, true, false, cond, List, [], ◌∷◌, ◌++◌, map, filter, refl, ◌∙◌, ap}
+use Rattle.uz_cert_laws.proofs.Common.{subst, Result, Ok, All-nil, All-cons, All-head, All-tail, Ends, is_within, tracks, RangeFits}
+use Rattle.uz_cert_laws.proofs.Common.{CellFits, spans_fit, Handler, Cell, Head, ◌>>=◌, Words, rest_of, next_as, span_of, spans_of}
+use Rattle.uz_cert_laws.proofs.Common.{CertWhy, ends_word, All, line}
 use Rattle.uz_cert_laws.proofs.Tests.{fine, fault_not, and_true, both_true, bind_ok, then}
+use Rattle.uz_cert_lines.specs.Forms.{with_span}
 use Rattle.uz_cert_laws.proofs.{Numbers.words_in, Facts.span_only, Facts.span_so}
 use Rattle.uz_cert_lines.specs.declared.why.CertWhy.TheVariants as why
 
@@ -110,6 +110,4 @@ spans_gone (c ∷ cs) list ended p b e =
     by_own false t e later = passed_on t (later list p e)
 
 pub bytes_of : (h : Head) (cells : List Cell) → All (CellFits h) cells → All (λ c. c.range.hi ≤ 255) cells
-bytes_of h [] a = All-nil (λ c. c.range.hi ≤ 255)
-bytes_of h (c ∷ cs) a = All-cons (λ c. c.range.hi ≤ 255) c cs (All-head (CellFits h) c cs a).range.high
-    (bytes_of h cs (All-tail (CellFits h) c cs a))
+bytes_of h cells a = All-weaker (CellFits h) (λ c. c.range.hi ≤ 255) (λ c f. f.range.high) cells a

@@ -72,22 +72,10 @@ cells_are kind i (c ∷ cs) (f ∷ fs) = by_own (tracks kind c.owner) (cells_are
 
 -- the defaults are these
 
-any_map : (r n : ℕ) → any_regs n ≡ map (usual_fact Main) (numbers_from r n)
-any_map r zero = refl
-any_map r (suc n) = ap (λ fs. Any ∷ fs) (any_map (suc r) n)
-
-any_map_alone : (r n : ℕ) → any_regs n ≡ map (usual_fact Alone) (numbers_from r n)
-any_map_alone r zero = refl
-any_map_alone r (suc n) = ap (λ fs. Any ∷ fs) (any_map_alone (suc r) n)
-
-own_map : (r n : ℕ) → own_regs r n ≡ map (usual_fact Handler) (numbers_from r n)
-own_map r zero = refl
-own_map r (suc n) = ap (λ fs. Old r ∷ fs) (own_map (suc r) n)
-
 pub registers_usual : (kind : Kind) → default_regs kind ≡ map (usual_fact kind) registers
-registers_usual Main = any_map 0 32
-registers_usual Handler = own_map 0 32
-registers_usual Alone = any_map_alone 0 32
+registers_usual Main = refl
+registers_usual Handler = refl
+registers_usual Alone = refl
 
 pub cells_usual : (kind : Kind) (i : ℕ) (cs : List Cell) → default_cells kind cs ≡ map usual_cell (numbered_cells kind i cs)
 cells_usual kind i [] = refl
@@ -179,20 +167,13 @@ range_only_usual shape c OldFlags i e = absurd cc
 
 pub count_at : (a n r : ℕ) → r < n → slice_get (numbers_from a n) r ≡ Some (a + r)
 count_at a zero r h = absurd (omega arith)
-count_at a (suc n) zero h = ap (λ k. Some k) (plus a)
-  where
-    plus : (a : ℕ) → a ≡ a + 0
-    plus a = omega arith
-count_at a (suc n) (suc r) h = count_at (suc a) n r (omega arith) ∙ ap (λ k. Some k) (plus a r)
-  where
-    plus : (a r : ℕ) → suc a + r ≡ a + suc r
-    plus a r = omega arith
+count_at a (suc n) zero h = let same : a ≡ a + 0 = omega arith in ap (λ k. Some k) same
+count_at a (suc n) (suc r) h =
+    let same : suc a + r ≡ a + suc r = omega arith in
+    count_at (suc a) n r (omega arith) ∙ ap (λ k. Some k) same
 
 pub register_at : (r : ℕ) → r < 32 → slice_get registers r ≡ Some r
-register_at r h = count_at 0 32 r h ∙ ap (λ k. Some k) (plus r)
-  where
-    plus : (r : ℕ) → 0 + r ≡ r
-    plus r = omega arith
+register_at r h = let same : 0 + r ≡ r = omega arith in count_at 0 32 r h ∙ ap (λ k. Some k) same
 
 numbered_same : (a b : ℕ) (x y : Cell) → a ≡ b → x ≡ y → ◌≡◌ {A = Option (ℕ × Cell)} (Some (a, x)) (Some (b, y))
 numbered_same a b x y e f = let pair : ◌≡◌ {A = ℕ × Cell} (a, x) (b, y) = cc in ap (λ (p : ℕ × Cell). Some p) pair
@@ -227,10 +208,7 @@ cells_before_next kind (x ∷ xs) (suc i) c e t = by_own (tracks kind x.owner) (
     by_own : (b : Bool) → tracked_before kind (suc i) xs ≡ suc (tracked_before kind i xs)
         → cond b (tracked_before kind (suc i) xs + 1) (tracked_before kind (suc i) xs)
         ≡ suc (cond b (tracked_before kind i xs + 1) (tracked_before kind i xs))
-    by_own true h = ap (λ n. n + 1) h ∙ plus (tracked_before kind i xs)
-      where
-        plus : (n : ℕ) → suc n + 1 ≡ suc (n + 1)
-        plus n = omega arith
+    by_own true h = omega (arith, h)
     by_own false h = h
 
 pub cells_before_rise : (kind : Kind) (cs : List Cell) (i j : ℕ) → i ≤ j → tracked_before kind i cs ≤ tracked_before kind j cs

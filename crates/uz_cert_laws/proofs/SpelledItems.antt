@@ -1,4 +1,5 @@
 -- All items of a line: what is spelled of facts is read as these facts.
+use Rattle.std.proofs.Math.Seq.{take-append_seam}
 use Rattle.uz_cert_laws.proofs.Tests.{three_of, same_number, both_true, given, fine_is, and_true, or_false, fine, fault_not, true_not}
 use Rattle.uz_cert_laws.proofs.Tests.{refuted, neither, then, le_is, word_is, is_lt, is_not_lt}
 use Rattle.uz_cert_laws.proofs.Common.{ends, Main, Handler, Alone, inr, CertWhy, inl, Result, pair_of, line, is_carry_and_zero_default}
@@ -31,13 +32,15 @@ set_middle [] back (suc n) x y e = absurd (omega arith)
 set_middle (a ∷ front) back zero x y e = absurd (omega arith)
 set_middle (a ∷ front) back (suc n) x y e = ap (λ ys. a ∷ ys) (set_middle front back n x y (omega (arith, e)))
 
+-- one value of such a list, and the place from which items are due
+set_facts : {A : Type 0} (put : ℕ → List A → Facts) (front back : List A) (n next least : ℕ) (x y : A) → n ≡ length front → least ≡ next
+    → put next (front ++ y ∷ back) ≡ put least (slice_set (front ++ x ∷ back) n y)
+set_facts put front back n next least x y e l =
+    ap (λ k. put k (front ++ y ∷ back)) (sym l) ∙ ap (put least) (sym (set_middle front back n x y e))
+
 get_middle : (pre later : List Cell) (x : Cell) → slice_get (pre ++ x ∷ later) (length pre) ≡ Some x
 get_middle [] later x = refl
 get_middle (p ∷ pre) later x = get_middle pre later x
-
-take_front : {A : Type 0} (pre later : List A) → take (length pre) (pre ++ later) ≡ pre
-take_front [] later = refl
-take_front (p ∷ pre) later = ap (λ ys. p ∷ ys) (take_front pre later)
 
 count_push : (kind : Kind) (pre : List Cell) (x : Cell)
     → tracked_count kind (pre ++ x ∷ []) ≡ cond (tracks kind x.owner) (tracked_count kind pre + 1) (tracked_count kind pre)
@@ -230,11 +233,7 @@ module _ (shape : Shape) (cells : List Cell) (h : ShapeFits shape cells) (g : Fa
       done (cells_facts least (front ++ usual_cell p ∷ back)) (cells_facts (43 + p.0 + 1) (front ++ x ∷ back)) (cell_word p x) d
       (omega (arith, l))
       (cell p.0 p.1 x (record { word = refl; below = at.1; there = at.0; own = at.2; fits = i; order = l; other = o })
-      (sym (ap (λ n. cells_facts n (slice_set (front ++ usual_cell p ∷ back) (tracked_before shape.kind p.0 cells) x)) (plus p.0)
-      ∙ ap (cells_facts (43 + p.0 + 1)) (set_middle front back (tracked_before shape.kind p.0 cells) (usual_cell p) x at.3))))
-    where
-      plus : (i : ℕ) → 44 + i ≡ 43 + i + 1
-      plus i = omega arith
+      (set_facts cells_facts front back (tracked_before shape.kind p.0 cells) (43 + p.0 + 1) (44 + p.0) (usual_cell p) x at.3 (omega arith)))
 
   -- the keys of the cells from one on, after these
   cells_ordered : (pre later : List Cell) (n least : ℕ) → pre ++ later ≡ cells → tracked_count shape.kind pre ≡ n → least ≤ 43 + length pre
@@ -258,7 +257,7 @@ module _ (shape : Shape) (cells : List Cell) (h : ShapeFits shape cells) (g : Fa
 
       before : tracked_before shape.kind (length pre) cells ≡ n
       before = ap (λ (ys : List Cell). tracked_count shape.kind (take (length pre) ys)) (sym e) ∙ ap (tracked_count shape.kind)
-          (take_front pre (x ∷ later)) ∙ c
+          (take-append_seam pre (x ∷ later)) ∙ c
 
       by_own : (t : Bool) → tracks shape.kind x.owner ≡ t
           → ((m k : ℕ) → tracked_count shape.kind (pre ++ x ∷ []) ≡ m → k ≤ 43 + length (pre ++ x ∷ [])
@@ -328,11 +327,7 @@ module _ (shape : Shape) (cells : List Cell) (h : ShapeFits shape cells) (g : Fa
         other = o;
         meant = λ one. flag_z_so shape before x d.words (d.past (omega (arith, one)));
       })
-      (sym (ap (λ n. flags_facts n (slice_set (front ++ usual_bit shape.kind letter ∷ back) b x)) (plus b)
-      ∙ ap (flags_facts (35 + b + 1)) (set_middle front back b (usual_bit shape.kind letter) x refl))))
-    where
-      plus : (i : ℕ) → 36 + i ≡ 35 + i + 1
-      plus i = omega arith
+      (set_facts flags_facts front back b (35 + b + 1) (36 + b) (usual_bit shape.kind letter) x refl (omega arith)))
 
   flags_stage : (least : ℕ) → least ≤ 35 → DoneFrom (flags_facts least (map (usual_bit shape.kind) letters_of_flags))
   flags_stage least l =
@@ -378,12 +373,8 @@ module _ (shape : Shape) (cells : List Cell) (h : ShapeFits shape cells) (g : Fa
         meant = λ two. not_flag_z shape before x d.words whole (omega (arith, l, there)) i.0
             (λ one. names (any_names d.words) d.set (i.2 (at.0 ∙ ap pair_letter two) one));
       })
-      (sym (ap (λ n. pairs_facts n (slice_set (front ++ AnyPair ∷ back) k x)) (plus k)
-      ∙ ap (pairs_facts (32 + k + 1)) (set_middle front back k AnyPair x refl))))
+      (set_facts pairs_facts front back k (32 + k + 1) (33 + k) AnyPair x refl (omega arith)))
     where
-      plus : (i : ℕ) → 33 + i ≡ 32 + i + 1
-      plus i = omega arith
-
       -- where C or Z is said, a word for it comes
       names : (t : Bool) → (t ≡ false → is_carry_and_zero_default shape.kind (map (usual_bit shape.kind) letters_of_flags)
           ≡ is_carry_and_zero_default shape.kind g.flags) → IsMeant shape.kind g.flags → t ≡ true
@@ -436,7 +427,7 @@ module _ (shape : Shape) (cells : List Cell) (h : ShapeFits shape cells) (g : Fa
       done (regs_facts least (front ++ usual_fact shape.kind r ∷ back)) (regs_facts (r + 1) (front ++ x ∷ back)) (register_item r x) d
       (omega (arith, l))
       (register r x (record { word = refl; there = at.1; fits = i; order = l; other = o })
-      (sym (ap (regs_facts (r + 1)) (set_middle front back r (usual_fact shape.kind r) x at.0))))
+      (set_facts regs_facts front back r (r + 1) (r + 1) (usual_fact shape.kind r) x at.0 refl))
 
   -- some words say all, and only what is spelled does
   pub items_again : (least : ℕ) × (after : ℕ)

@@ -1,5 +1,4 @@
-use Rattle.uz_cert.proofs.Common.{inr, ap, ◌∙◌, cert_before, pieces_left}
-use Rattle.uz_cert.proofs.Steps.{late_piece}
+use Rattle.uz_cert.proofs.{Common.inr, Common.ap, Common.◌∙◌, Common.cert_before, Common.pieces_left, Steps.late_piece}
 use Rattle.uz_cert.proofs.reading.finish.Goals as goal
 
 pub returns-in-Some : goal.returns-in-Some

@@ -1,7 +1,6 @@
-use Rattle.uz_cert.proofs.Common.{Two, Three}
 use Rattle.uz_cert.proofs.TextLaws.{LineLaw, decided, one_certificate, one_fault, not_both, text_certificate, certificate_text}
 use Rattle.uz_cert.proofs.TextLaws.{text_fault, fault_text}
-use Rattle.uz_cert.proofs.{Told.text_tells, WholeText.text_fits}
+use Rattle.uz_cert.proofs.{Common.Two, Common.Three, Told.text_tells, WholeText.text_fits}
 use Rattle.uz_cert.proofs.reading.text_or_fault.Goals as goal
 
 pub returns : goal.returns

@@ -1,5 +1,4 @@
-use Rattle.uz_cert_writer.proofs.Common.{arith, cell_words}
-use Rattle.uz_cert_writer.proofs.Steps.{line_added, lines_over}
+use Rattle.uz_cert_writer.proofs.{Common.arith, Common.cell_words, Steps.line_added, Steps.lines_over}
 use Rattle.uz_cert_writer.proofs.head_lines.add_cell_lines.Goals as goal
 
 pub loop-cell-preserved : goal.loop-cell-preserved

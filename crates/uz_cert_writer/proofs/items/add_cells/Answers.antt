@@ -1,5 +1,4 @@
-use Rattle.uz_cert_writer.proofs.Common.{drop, arith}
-use Rattle.uz_cert_writer.proofs.Steps.{cell_taken, cells_over}
+use Rattle.uz_cert_writer.proofs.{Common.drop, Common.arith, Steps.cell_taken, Steps.cells_over}
 use Rattle.uz_cert_writer.proofs.items.add_cells.Goals as goal
 
 pub loop-number-preserved : goal.loop-number-preserved

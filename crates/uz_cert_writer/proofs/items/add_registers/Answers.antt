@@ -1,5 +1,4 @@
-use Rattle.uz_cert_writer.proofs.Common.{arith}
-use Rattle.uz_cert_writer.proofs.Steps.{register_added, registers_over}
+use Rattle.uz_cert_writer.proofs.{Common.arith, Steps.register_added, Steps.registers_over}
 use Rattle.uz_cert_writer.proofs.items.add_registers.Goals as goal
 
 pub loop-register-preserved : goal.loop-register-preserved

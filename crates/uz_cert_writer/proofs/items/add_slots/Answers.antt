@@ -1,6 +1,5 @@
-use Rattle.uz_cert_writer.proofs.Common.{◌++◌, arith, fact_word}
+use Rattle.uz_cert_writer.proofs.{Common.◌++◌, Common.arith, Common.fact_word, Steps.word_begun, Steps.words_over}
 use Rattle.std.proofs.Common.{codes}
-use Rattle.uz_cert_writer.proofs.Steps.{word_begun, words_over}
 use Rattle.uz_cert_writer.proofs.items.add_slots.Goals as goal
 
 pub loop-fact-preserved : goal.loop-fact-preserved

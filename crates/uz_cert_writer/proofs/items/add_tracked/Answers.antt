@@ -1,5 +1,4 @@
-use Rattle.uz_cert_writer.proofs.Common.{sym, ◌∙◌}
-use Rattle.uz_cert_writer.proofs.Steps.{cell_added, cell_passed, cell_missing}
+use Rattle.uz_cert_writer.proofs.{Common.sym, Common.◌∙◌, Steps.cell_added, Steps.cell_passed, Steps.cell_missing}
 use Rattle.uz_cert_writer.proofs.items.add_tracked.Goals as goal
 
 pub returns-then-not-tracks : goal.returns-then-not-tracks

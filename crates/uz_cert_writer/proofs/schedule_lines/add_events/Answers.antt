@@ -1,5 +1,4 @@
-use Rattle.uz_cert_writer.proofs.Common.{arith, refl, event_words}
-use Rattle.uz_cert_writer.proofs.Steps.{line_added, lines_over}
+use Rattle.uz_cert_writer.proofs.{Common.arith, Common.refl, Common.event_words, Steps.line_added, Steps.lines_over}
 use Rattle.uz_cert_writer.proofs.schedule_lines.add_events.Goals as goal
 
 pub loop-event-preserved : goal.loop-event-preserved

@@ -1,5 +1,4 @@
-use Rattle.uz_cert_writer.proofs.Common.{ℕ, ◌+◌, ◌≤◌, arith, get_or, refl}
-use Rattle.uz_cert_writer.proofs.Runs.{run_taken}
+use Rattle.uz_cert_writer.proofs.{Common.ℕ, Common.◌+◌, Common.◌≤◌, Common.arith, Common.get_or, Common.refl, Runs.run_taken}
 use Rattle.uz_cert_writer.proofs.schedule_lines.add_runs_from.Goals as goal
 
 one_more : (new old lines : ℕ) → new ≤ old + 1 → old ≤ lines + 1 → new ≤ lines + 1 + 1

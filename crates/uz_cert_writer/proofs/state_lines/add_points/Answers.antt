@@ -1,5 +1,4 @@
-use Rattle.uz_cert_writer.proofs.Common.{arith, point_words}
-use Rattle.uz_cert_writer.proofs.Steps.{line_added, lines_over}
+use Rattle.uz_cert_writer.proofs.{Common.arith, Common.point_words, Steps.line_added, Steps.lines_over}
 use Rattle.uz_cert_writer.proofs.state_lines.add_points.Goals as goal
 
 pub loop-point-preserved : goal.loop-point-preserved

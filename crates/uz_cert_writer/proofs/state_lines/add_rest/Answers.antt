@@ -1,6 +1,5 @@
-use Rattle.uz_cert_writer.proofs.Common.{◌++◌, ◌∙◌, ap}
+use Rattle.uz_cert_writer.proofs.{Common.◌++◌, Common.◌∙◌, Common.ap, WholeLines.rest_is}
 use Rattle.std.specs.Prelude.{ℕ, List}
-use Rattle.uz_cert_writer.proofs.WholeLines.{rest_is}
 use Rattle.uz_cert_writer.proofs.state_lines.add_rest.Goals as goal
 
 pub returns : goal.returns

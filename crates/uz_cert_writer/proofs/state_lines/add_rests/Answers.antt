@@ -1,5 +1,4 @@
-use Rattle.uz_cert_writer.proofs.Common.{arith, rest_words}
-use Rattle.uz_cert_writer.proofs.Steps.{line_added, lines_over}
+use Rattle.uz_cert_writer.proofs.{Common.arith, Common.rest_words, Steps.line_added, Steps.lines_over}
 use Rattle.uz_cert_writer.proofs.state_lines.add_rests.Goals as goal
 
 pub loop-rest-preserved : goal.loop-rest-preserved

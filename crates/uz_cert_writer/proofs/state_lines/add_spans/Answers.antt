@@ -1,5 +1,4 @@
-use Rattle.uz_cert_writer.proofs.Common.{ends_word}
-use Rattle.uz_cert_writer.proofs.Steps.{word_added}
+use Rattle.uz_cert_writer.proofs.{Common.ends_word, Steps.word_added}
 use Rattle.uz_cert_writer.proofs.state_lines.add_spans.Goals as goal
 
 pub loop-span-preserved : goal.loop-span-preserved

@@ -1,5 +1,4 @@
-use Rattle.uz_cert_writer.proofs.Common.{decimal, get_or, refl, arith}
-use Rattle.uz_cert_writer.proofs.Steps.{word_put, words_over}
+use Rattle.uz_cert_writer.proofs.{Common.decimal, Common.get_or, Common.refl, Common.arith, Steps.word_put, Steps.words_over}
 use Rattle.uz_cert_writer.proofs.words.add_numbers.Goals as goal
 
 pub loop-number-preserved : goal.loop-number-preserved

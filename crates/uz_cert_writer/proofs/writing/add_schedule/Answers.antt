@@ -1,5 +1,4 @@
-use Rattle.uz_cert_writer.proofs.Common.{arith, common_steps}
-use Rattle.uz_cert_writer.proofs.Steps.{lengths_count}
+use Rattle.uz_cert_writer.proofs.{Common.arith, Common.common_steps, Steps.lengths_count}
 use Rattle.uz_cert_writer.proofs.writing.add_schedule.Goals as goal
 
 pub add_kinds-requires-clause-lengths : goal.add_kinds-requires-clause-lengths

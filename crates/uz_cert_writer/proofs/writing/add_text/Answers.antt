@@ -1,6 +1,5 @@
-use Rattle.uz_cert_writer.proofs.Common.{◌++◌, sym, ◌∙◌, ap}
+use Rattle.uz_cert_writer.proofs.{Common.◌++◌, Common.sym, Common.◌∙◌, Common.ap, Joining.spelling_parts}
 use Rattle.std.specs.Prelude.{ℕ, List}
-use Rattle.uz_cert_writer.proofs.Joining.{spelling_parts}
 use Rattle.uz_cert_writer.proofs.writing.add_text.Goals as goal
 
 pub returns : goal.returns

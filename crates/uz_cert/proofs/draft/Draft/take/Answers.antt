@@ -1,5 +1,4 @@
-use Rattle.uz_cert.proofs.Common.{sym, ◌∙◌, ap, Some}
-use Rattle.uz_cert.proofs.KeptLaws.{kept_read}
+use Rattle.uz_cert.proofs.{Common.sym, Common.◌∙◌, Common.ap, Common.Some, KeptLaws.kept_read}
 use Rattle.uz_cert.proofs.draft.Draft.take.Goals as goal
 
 pub put-requires-clause-fits : goal.put-requires-clause-fits
