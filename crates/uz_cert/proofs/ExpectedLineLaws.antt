@@ -220,3 +220,22 @@ pub due_none : (d : Draft) (e : Entry) → 4 ≤ d.read → PastPoints d e → d
 due_none d e b p h =
     past_entry d e b p.0 ∙ (pass (ltb (length d.points) d.sizes.points) _ _ (less_false (length d.points) d.sizes.points p.1)
     ∙ pick d.ended _ _ h)
+
+try_run : (d : Draft) → 4 ≤ d.read → PastFall d → length d.lines < d.sizes.lines → expected_line d ≡ Some expected.Run
+unfolding expected_line
+try_run d b p room = grind (arith, nat_tests)
+
+try_run2 : (d : Draft) → 4 ≤ d.read → PastFall d → length d.lines < d.sizes.lines → expected_line d ≡ Some expected.Run
+unfolding expected_line
+try_run2 d b p room =
+    simp (not_equal d.read 1 (omega (arith, b)), not_equal d.read 2 (omega (arith, b)), not_equal d.read 3 (omega (arith, b)),
+    less_false (length d.head.cells.items) d.sizes.cells p.0.0, less_false 0 d.owed p.0.1.0, less_false (length d.kinds) d.sizes.kinds p.0.1.1,
+    not_equal d.fall 0 p.1, less_true (length d.lines) d.sizes.lines room)
+
+try_cell : (d : Draft) → 4 ≤ d.read → length d.head.cells.items < d.sizes.cells → expected_line d ≡ Some expected.Cell
+unfolding expected_line
+try_cell d b room = grind (arith, nat_tests)
+
+try_stack : (d : Draft) → d.read ≡ 3 → expected_line d ≡ Some expected.Stack
+unfolding expected_line
+try_stack d h = grind (arith, nat_tests)

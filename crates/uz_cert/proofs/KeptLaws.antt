@@ -130,24 +130,8 @@ first_kept version =
     record {
       begun = omega arith;
       rules = refl;
-      sizes = record {
-        kinds_some = omega arith;
-        kinds_few = omega arith;
-        lines_some = omega arith;
-        lines_few = omega arith;
-        rests_few = omega arith;
-        points_some = omega arith;
-        points_few = omega arith;
-        cells_few = omega arith;
-      };
-      stack = record {
-        low = omega arith;
-        order = omega arith;
-        high = omega arith;
-        main = omega arith;
-        handler = omega arith;
-        room = omega arith;
-      };
+      sizes = grind arith;
+      stack = grind arith;
       cells = record { few = omega arith; each = All-nil (CellFits d.head); rise = refl; least_is = refl };
       schedule = (
         record {

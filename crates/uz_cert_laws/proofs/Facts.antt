@@ -144,14 +144,7 @@ unfolding raw_of
 digit_first f [] r d e = absurd cc
 digit_first f (b ∷ bs) r d e =
     let same : b ≡ d.0 = cc in
-    let old_or = cond (eqb b 111) (old f bs) (range f (b ∷ bs)) in
-    let loop_or = cond (eqb b 99) (sloped false f bs) old_or in
-    let line_or = cond (eqb b 108) (sloped true f bs) loop_or in
-    else_so (eqb b 42) (whole f bs) line_or (not_number b 42 (λ x. omega (arith, d.3, same, x)))
-    ∙ else_so (eqb b 108) (sloped true f bs) loop_or (not_number b 108 (λ x. omega (arith, d.4, same, x)))
-    ∙ else_so (eqb b 99) (sloped false f bs) old_or (not_number b 99 (λ x. omega (arith, d.4, same, x)))
-    ∙ else_so (eqb b 111) (old f bs) (range f (b ∷ bs)) (not_number b 111 (λ x. omega (arith, d.4, same, x)))
-    ∙ e
+    grind (arith, nat_tests, d.3, d.4, same, e)
 
 one_range : (f : FactForms) (n : ℕ) → f.limit ≤ 2 ^ 32 → InForms f n → range f (decimal n) ≡ Ok (raw.One n)
 unfolding range
@@ -214,17 +207,7 @@ raw_so f raw.OldFlags h i = so f.old (Ok raw.OldFlags) (Err why.Word) i
 -- ranges that aren't the whole one: what is read as one, and that each is read
 
 not_whole : (top lo hi : ℕ) → hi ≤ top → (eqb lo 0 && eqb hi top) ≡ false → (0 < lo) ⊎ (hi < top)
-not_whole top lo hi h t =
-    elim (and_false (eqb lo 0) (eqb hi top) t) [
-      | inl f ↦ inl (above lo (number_not lo 0 f))
-      | inr f ↦ inr (under hi (number_not hi top f) h)
-    ]
-  where
-    above : (lo : ℕ) → lo ≢ 0 → 0 < lo
-    above lo h = omega arith
-
-    under : (hi : ℕ) → hi ≢ top → hi ≤ top → hi < top
-    under hi h k = omega arith
+not_whole top lo hi h t = grind (arith, nat_tests)
 
 pub part_not_whole : (top : ℕ) (e : Ends) → PartFits top e → (eqb e.lo 0 && eqb e.hi top) ≡ false
 part_not_whole top e h = by_side h.part

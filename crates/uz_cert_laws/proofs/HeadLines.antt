@@ -1,17 +1,17 @@
 -- The lines of sizes, response, stack and cells.
-use Rattle.uz_cert_laws.proofs.Common.{◌≡◌, ◌⊎◌, inl, inr, ℕ, zero, suc, ◌+◌, ◌-◌, ◌<◌, ◌≤◌, ◌≢◌, eqb, Bool, true, false, cond, List, []}
-use Rattle.uz_cert_laws.proofs.Common.{◌∷◌, decimal, codes, lit<, lit≤, refl, sym, ◌∙◌, ap, arith, Ok, CellFits, Head, Cell, Words}
-use Rattle.uz_cert_laws.proofs.Common.{choice_of, ends, reads, least_of, ParsedLine, line, word_at}
-use Rattle.uz_schedule.specs.declared.kinds.Response.{Response}
-use Rattle.uz_schedule.specs.declared.kinds.Response.TheVariants.{Four, Five}
+use Rattle.uz_cert_laws.proofs.Common.{nat_tests, ◌≡◌, ◌⊎◌, inl, inr, ℕ, zero, suc, ◌+◌, ◌-◌, ◌<◌, ◌≤◌, ◌≢◌, eqb, Bool, true, false, cond}
+use Rattle.uz_cert_laws.proofs.Common.{List, [], ◌∷◌, decimal, codes, lit<, lit≤, refl, sym, ◌∙◌, ap, arith, Ok, CellFits, Head, Cell}
+use Rattle.uz_cert_laws.proofs.Common.{Words, choice_of, ends, reads, least_of, ParsedLine, line, word_at}
 use Rattle.uz_schedule.specs.declared.kinds.Owner.TheVariants.{Main as MainCell, Handler as HandlerCell}
 use Rattle.uz_cert_lines.specs.Lines.{SizesFit, size_form, irq_form, response_of, stack_form, owner_of, off_stack, cell_form}
-use Rattle.uz_cert_writer.specs.Spelling.{owner_word, cell_words}
 use Rattle.uz_cert_laws.specs.LineWords.{sizes_words, response_words, stack_line_words, with_stack}
 use Rattle.uz_cert_laws.proofs.Numbers.{apart, is_within, under_both, both_under, least_small, IsWithin}
+use Rattle.uz_schedule.specs.{declared.kinds.Response.Response, declared.kinds.Response.TheVariants.Four}
+use Rattle.uz_schedule.specs.{declared.kinds.Response.TheVariants.Five, WellFormed.StackFits, Schedule.response_clocks}
+use Rattle.uz_schedule.specs.{declared.kinds.Owner.Owner}
+use Rattle.uz_cert_writer.specs.Spelling.{owner_word, cell_words}
 use Rattle.uz_cert_laws.proofs.FormLaws.{IsReadable, form_again, form_only}
 use Rattle.uz_cert_laws.proofs.Tests.{both_of, fine, number_is, number_not}
-use Rattle.uz_schedule.specs.{WellFormed.StackFits, Schedule.response_clocks, declared.kinds.Owner.Owner}
 use Rattle.uz_cert_lines.specs.{declared.lines.Sizes.Sizes, declared.lines.StackLine.StackLine}
 use Rattle.uz_cert_lines.specs.declared.lines.ParsedLine.TheVariants as parsed
 
@@ -60,11 +60,7 @@ irq_again Four = form_again irq_form (4, tt) irq_sound (is_within 4 6 4 (lit≤ 
 irq_again Five = form_again irq_form (5, tt) irq_sound (is_within 4 6 5 (lit≤ tt) (lit≤ tt) (lit< tt), tt)
 
 response_is : (n : ℕ) → 4 ≤ n → n < 6 → response_clocks (response_of n) ≡ n
-response_is n a b = by_test (eqb n 4) refl
-  where
-    by_test : (t : Bool) → eqb n 4 ≡ t → response_clocks (cond t Four Five) ≡ n
-    by_test true e = sym (number_is n 4 e)
-    by_test false e = let apart : n ≢ 4 = number_not n 4 e in omega arith
+response_is n a b = grind (arith, nat_tests)
 
 pub irq_only : (words : Words) (says : ParsedLine) → reads irq_form words ≡ Ok says
     → (r : Response) × (says ≡ parsed.Irq r) × (words ≡ line (response_words r))

@@ -1,16 +1,16 @@
 -- Items of one value that have a name: what each kind of value gives is read again and only that is read, and from this the same
 -- for each table of such items.
-use Rattle.uz_cert_laws.proofs.Common.{◌≡◌, ◌⊎◌, inl, inr, ℕ, ◌+◌, ◌<◌, ◌≤◌, ◌^◌, Bool, true, false, cond, not, ◌&&◌, ◌||◌, eqb, leb, ltb}
-use Rattle.uz_cert_laws.proofs.Common.{List, [], ◌∷◌, ◌++◌, length, decimal, bytes_eq, lit≤, refl, sym, ◌∙◌, ap, subst, append_assoc}
-use Rattle.uz_cert_laws.proofs.Common.{arith, ⊤, Ok, Err, plain, RangeFits, ◌>>=◌, one_number, range, ends_of, names_c_or_z}
+use Rattle.uz_cert_laws.proofs.Common.{nat_tests, ◌≡◌, ◌⊎◌, inl, inr, ℕ, ◌+◌, ◌<◌, ◌≤◌, ◌^◌, Bool, true, false, cond, not, ◌&&◌, ◌||◌}
+use Rattle.uz_cert_laws.proofs.Common.{eqb, leb, ltb, List, [], ◌∷◌, ◌++◌, length, decimal, bytes_eq, lit≤, refl, sym, ◌∙◌, ap, subst}
+use Rattle.uz_cert_laws.proofs.Common.{append_assoc, arith, ⊤, Ok, Err, plain, RangeFits, ◌>>=◌, one_number, range, ends_of, names_c_or_z}
 use Rattle.uz_cert_laws.proofs.Common.{any_names, ValueForm, a_number, a_range, a_comparison, a_register, ValueOf, is_usual, NamedItem}
 use Rattle.uz_cert_laws.proofs.Common.{named_items, named_place, NamedValues, Shape, Facts, item, unless, range_word, value_word}
 use Rattle.uz_cert_laws.proofs.Common.{value_item, value_items, listed_items, temp_forms, ComparedFits, SplitFits}
-use Rattle.uz_cert_laws.proofs.Tests.{and_true, both_true, neither, not_true, true_not, refuted, fine, fine_is, fault_not, passed, so, else_so}
-use Rattle.uz_cert_laws.proofs.Tests.{tested, bind_ok, then, le_is, is_le, lt_is, number_is, same_number, word_is, same_word}
+use Rattle.uz_cert_laws.proofs.Tests.{and_true, both_true, neither, not_true, true_not, refuted, fine, fine_is, fault_not, passed, so}
+use Rattle.uz_cert_laws.proofs.Tests.{else_so, tested, bind_ok, then, le_is, is_le, lt_is, number_is, same_number, word_is, same_word}
 use Rattle.uz_cert_laws.proofs.Comparisons.{comparison_only, comparison_so, nothing_is, split_only, split_so, none_is}
-use Rattle.uz_cert_laws.proofs.Facts.{temp_only, temp_so, whole_ends, part_from}
-use Rattle.uz_cert_laws.proofs.{Sections.Section, Sections.IsSection, Numbers.one_only, Numbers.one_so, Numbers.lacks}
+use Rattle.uz_cert_laws.proofs.{Facts.temp_only, Facts.temp_so, Facts.whole_ends, Facts.part_from, Sections.Section, Sections.IsSection}
+use Rattle.uz_cert_laws.proofs.{Numbers.one_only, Numbers.one_so, Numbers.lacks}
 use Rattle.uz_cert_lines.specs.{Named.usual_of, Named.value_read, Items.in_order, Items.value_set, Items.take_value, Items.take_listed}
 use Rattle.uz_cert_lines.specs.declared.why.CertWhy.TheVariants as why
 
@@ -18,18 +18,11 @@ use Rattle.uz_cert_lines.specs.declared.why.CertWhy.TheVariants as why
 
 pub order_is : (facts more : Facts) (place : ℕ) (t : Bool) (set : Facts) → in_order facts place t >>= (λ p. Ok set) ≡ Ok more
     → (facts.least ≤ place) × (t ≡ false) × (more ≡ set)
-order_is facts more place t set e =
-    let m = bind_ok (in_order facts place t) (λ p. Ok set) more e in
-    let p = passed (leb facts.least place && not t) (Ok place) why.Order m.0 m.1 in
-    let two = and_true (leb facts.least place) (not t) p.0 in
-    (le_is facts.least place two.0, not_true t two.1, sym (fine_is set more m.2))
+order_is facts more place t set e = grind (arith, nat_tests)
 
 pub order_so : (facts : Facts) (place : ℕ) (t : Bool) (set : Facts) → facts.least ≤ place → t ≡ false → in_order facts place t >>=
     (λ p. Ok set) ≡ Ok set
-order_so facts place t set l e =
-    then (in_order facts place t) (λ p. Ok set) place (Ok set)
-    (so (leb facts.least place && not t) (Ok place) (Err why.Order) (both_true (leb facts.least place) (not t) (is_le facts.least place l)
-    (ap not e))) refl
+order_so facts place t set l e = grind (arith, nat_tests)
 
 -- kinds of value
 

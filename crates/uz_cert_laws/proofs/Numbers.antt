@@ -26,29 +26,10 @@ pub record IsWithin (a : NumberBounds) (n : ℕ) : Type 0 where
   pub other : n ≢ a.other
 
 asked_is : (a : NumberBounds) (n m : ℕ) → asked a n ≡ Ok m → (n ≡ m) × ((n < a.hole) ⊎ (a.hole_end ≤ n)) × (a.least ≤ n) × (n ≢ a.other)
-asked_is a n m e =
-    let hole = failed (leb a.hole n && ltb n a.hole_end) (cond (leb a.least n && not (eqb n a.other)) (Ok n) (Err why.Order)) why.Limit m
-    e in
-    let order = passed (leb a.least n && not (eqb n a.other)) (Ok n) why.Order m hole.1 in
-    let two = and_true (leb a.least n) (not (eqb n a.other)) order.0 in (
-      fine_is n m order.1,
-      outside (and_false (leb a.hole n) (ltb n a.hole_end) hole.0),
-      le_is a.least n two.0,
-      number_not n a.other (not_true (eqb n a.other) two.1),
-    )
-  where
-    outside : (leb a.hole n ≡ false) ⊎ (ltb n a.hole_end ≡ false) → (n < a.hole) ⊎ (a.hole_end ≤ n)
-    outside d = elim d [ inl f ↦ inl (not_le a.hole n f) | inr f ↦ inr (not_lt n a.hole_end f) ]
+asked_is a n m e = grind (arith, nat_tests)
 
 asked_so : (a : NumberBounds) (n : ℕ) → IsWithin a n → asked a n ≡ Ok n
-asked_so a n h =
-    else_so (leb a.hole n && ltb n a.hole_end) (Err why.Limit) (cond (leb a.least n && not (eqb n a.other)) (Ok n) (Err why.Order))
-    (hole h.outside)
-    ∙ so (leb a.least n && not (eqb n a.other)) (Ok n) (Err why.Order)
-    (both_true (leb a.least n) (not (eqb n a.other)) (is_le a.least n h.least) (ap not (not_number n a.other h.other)))
-  where
-    hole : (n < a.hole) ⊎ (a.hole_end ≤ n) → (leb a.hole n && ltb n a.hole_end) ≡ false
-    hole d = grind (arith, nat_tests)
+asked_so a n h = grind (arith, nat_tests)
 
 -- what is read is the number's decimal text
 pub number_only : (a : NumberBounds) (w : List ℕ) (n : ℕ) → a.limit ≤ 2 ^ 32 → number_of a w ≡ Ok n → (w ≡ decimal n) × IsWithin a n
@@ -301,25 +282,13 @@ is_within low limit n l a b =
     record { low = a; below = b; outside = inr (omega arith); least = omega arith; other = apart n (omega arith) }
 
 pub under_both : (a b n : ℕ) → n < a → n < b → n < least_of a b
-under_both a b n h k = by_test (ltb a b)
-  where
-    by_test : (t : Bool) → n < cond t a b
-    by_test true = h
-    by_test false = k
+under_both a b n h k = grind (arith, nat_tests)
 
 pub both_under : (a b n : ℕ) → n < least_of a b → (n < a) × (n < b)
-both_under a b n h = by_test (ltb a b) refl h
-  where
-    by_test : (t : Bool) → ltb a b ≡ t → n < cond t a b → (n < a) × (n < b)
-    by_test true e h = let less : a < b = lt_is a b e in (h, omega arith)
-    by_test false e h = let less : b ≤ a = not_lt a b e in (omega arith, h)
+both_under a b n h = grind (arith, nat_tests)
 
 pub least_small : (a b : ℕ) → a ≤ 2 ^ 31 → least_of a b ≤ 2 ^ 31
-least_small a b h = by_test (ltb a b) refl
-  where
-    by_test : (t : Bool) → ltb a b ≡ t → cond t a b ≤ 2 ^ 31
-    by_test true e = h
-    by_test false e = let less : b ≤ a = not_lt a b e in omega arith
+least_small a b h = grind (arith, nat_tests)
 
 pub one_of_so : (count n : ℕ) → count ≤ 2 ^ 31 → n < count → IsWithin (one_of count) n
 one_of_so count n h b =

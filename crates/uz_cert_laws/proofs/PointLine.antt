@@ -1,7 +1,7 @@
 -- The line of a point.
-use Rattle.uz_cert_laws.proofs.Common.{All-weaker, ◌≡◌, ℕ, zero, suc, ◌+◌, ◌-◌, ◌*◌, ◌/◌, ◌<◌, ◌≤◌, ◌^◌, Bool, true, false, ◌&&◌, ◌||◌}
-use Rattle.uz_cert_laws.proofs.Common.{eqb, List, [], ◌∷◌, decimal, codes, get_or, lit<, lit≤, refl, sym, ◌∙◌, ap, subst, arith, Ok}
-use Rattle.uz_cert_laws.proofs.Common.{decimal_digit, clock_limit, scanline, RangeFits, FactFits, PairFits, BitFits, magnitude}
+use Rattle.uz_cert_laws.proofs.Common.{nat_tests, All-weaker, ◌≡◌, ℕ, zero, suc, ◌+◌, ◌-◌, ◌*◌, ◌/◌, ◌<◌, ◌≤◌, ◌^◌, Bool, true, false}
+use Rattle.uz_cert_laws.proofs.Common.{◌&&◌, ◌||◌, eqb, List, [], ◌∷◌, decimal, codes, get_or, lit<, lit≤, refl, sym, ◌∙◌, ap, subst}
+use Rattle.uz_cert_laws.proofs.Common.{arith, Ok, decimal_digit, clock_limit, scanline, RangeFits, FactFits, PairFits, BitFits, magnitude}
 use Rattle.uz_cert_laws.proofs.Common.{is_zero_or_one, is_carry_and_zero_default, Kind, Main, Handler, Alone, Head, Words, choice_of}
 use Rattle.uz_cert_laws.proofs.Common.{is_handler, bytes_forms, reads, none_in_main, Facts, ParsedLine, Version, First, Second, Third}
 use Rattle.uz_cert_laws.proofs.Common.{kind_word, Option, None, signed_word, named_items, named_of, with_named, usual_facts, Shape, ℤ}
@@ -32,11 +32,7 @@ begin_of Handler p h e = absurd cc
 begin_of Alone p h e = absurd cc
 
 top_below : (top : ℕ) → is_top top ≡ true → top < scanline
-top_below top h = by_half (eqb top (half_line - 1)) refl h
-  where
-    by_half : (t : Bool) → eqb top (half_line - 1) ≡ t → (t || eqb top (scanline - 1)) ≡ true → top < scanline
-    by_half true e h = omega (arith, number_is top (half_line - 1) e)
-    by_half false e h = omega (arith, number_is top (scanline - 1) h)
+top_below top h = grind (arith, nat_tests)
 
 -- what is asked of the timer: where its items may not stand, it has the defaults
 

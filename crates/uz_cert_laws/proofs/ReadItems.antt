@@ -1,8 +1,8 @@
 -- All items of a line: where they are read, they are what is spelled of the facts that they say.
-use Rattle.uz_cert_laws.proofs.Common.{◌≡◌, ◌⊎◌, inl, inr, ℕ, zero, suc, ◌+◌, ◌<◌, ◌≤◌, Bool, true, false, cond, not, ◌&&◌, ◌||◌, eqb}
-use Rattle.uz_cert_laws.proofs.Common.{ltb, List, [], ◌∷◌, ◌++◌, map, length, take, drop, get_or, decimal, codes, bytes_eq, lit<, lit≤}
-use Rattle.uz_cert_laws.proofs.Common.{refl, sym, ◌∙◌, ap, subst, append_assoc, append-nil, arith, Ok, slice_set, All-nil, All-head}
-use Rattle.uz_cert_laws.proofs.Common.{PairFits, BitFits, All-tail, decimal_digit, Ends, tracks, RangeFits, is_zero_or_one}
+use Rattle.uz_cert_laws.proofs.Common.{nat_tests, ◌≡◌, ◌⊎◌, inl, inr, ℕ, zero, suc, ◌+◌, ◌<◌, ◌≤◌, Bool, true, false, cond, not, ◌&&◌}
+use Rattle.uz_cert_laws.proofs.Common.{◌||◌, eqb, ltb, List, [], ◌∷◌, ◌++◌, map, length, take, drop, get_or, decimal, codes, bytes_eq}
+use Rattle.uz_cert_laws.proofs.Common.{lit<, lit≤, refl, sym, ◌∙◌, ap, subst, append_assoc, append-nil, arith, Ok, slice_set, All-nil}
+use Rattle.uz_cert_laws.proofs.Common.{All-head, PairFits, BitFits, All-tail, decimal_digit, Ends, tracks, RangeFits, is_zero_or_one}
 use Rattle.uz_cert_laws.proofs.Common.{is_default_flag, is_carry_and_zero_default, Kind, Main, Handler, Alone, Cell, Fact, Any, Between}
 use Rattle.uz_cert_laws.proofs.Common.{PairFact, Bit, Words, names_c_or_z, any_names, first_facts, default_flag, is_handler, bytes_forms}
 use Rattle.uz_cert_laws.proofs.Common.{is_flag_z, tracked_count, take_item, items_from, read_items, FactForms, Shape, Facts, numbers_from}
@@ -129,22 +129,7 @@ zero_or_one_word (BetweenPair x) e =
 z_pair_names : (shape : Shape) (f : Facts) (x : PairFact) (later : List (List ℕ)) → is_zero_or_one x ≡ true
     → is_flag_z shape f (pair_word x) later ≡ false → any_names later ≡ true
 z_pair_names shape f x later z e =
-    let first = or_false (shape.plain || ltb 35 f.least) ((bytes_eq (pair_word x) (codes "?") || bytes_eq (pair_word x) (codes "o"))
-    || ((bytes_eq (pair_word x) (codes "0") || bytes_eq (pair_word x) (codes "1")) && not (any_names later))) e in
-    let second = or_false (bytes_eq (pair_word x) (codes "?") || bytes_eq (pair_word x) (codes "o"))
-    ((bytes_eq (pair_word x) (codes "0") || bytes_eq (pair_word x) (codes "1")) && not (any_names later)) first.1 in
-    not_not (any_names later) (sym (ap (λ b. b && not (any_names later)) (says (zero_or_one_word x z))) ∙ second.1)
-  where
-    not_not : (b : Bool) → not b ≡ false → b ≡ true
-    not_not true e = refl
-    not_not false e = absurd cc
-
-    says : (pair_word x ≡ codes "0") ⊎ (pair_word x ≡ codes "1") → (bytes_eq (pair_word x) (codes "0") || bytes_eq (pair_word x)
-        (codes "1")) ≡ true
-    says d = elim d [
-      | inl e ↦ ap (λ w. bytes_eq w (codes "0") || bytes_eq w (codes "1")) e
-      | inr e ↦ ap (λ w. bytes_eq w (codes "0") || bytes_eq w (codes "1")) e
-    ]
+    elim (zero_or_one_word x z) [ inl w ↦ grind (arith, nat_tests) | inr w ↦ grind (arith, nat_tests) ]
 
 -- what an item tells of the flags C and Z
 

@@ -1,18 +1,17 @@
 -- All items of a line: what is spelled of facts is read as these facts.
-use Rattle.std.proofs.Math.Seq.{take-append_seam}
+use Rattle.uz_cert_laws.proofs.Common.{nat_tests, ends, Main, Handler, Alone, inr, CertWhy, inl, Result, pair_of, line}
+use Rattle.uz_cert_laws.proofs.Common.{is_carry_and_zero_default, PairFits, BitFits, ◌≡◌, ℕ, zero, suc, ◌+◌, ◌<◌, ◌≤◌, Bool, true, false}
+use Rattle.uz_cert_laws.proofs.Common.{cond, not, ◌&&◌, ◌||◌, eqb, leb, ltb, List, [], ◌∷◌, ◌++◌, map, length, take, get_or, decimal}
+use Rattle.uz_cert_laws.proofs.Common.{codes, bytes_eq, lit<, lit≤, refl, sym, ◌∙◌, ap, subst, append_assoc, append-nil, add-one}
+use Rattle.uz_cert_laws.proofs.Common.{length-append, arith, Some, Ok, Err, slice_get, slice_set, All-head, All-tail, decimal_digit}
+use Rattle.uz_cert_laws.proofs.Common.{rises_from, rises, tracks, is_zero_or_one, is_default_flag, Kind, Cell, Fact, PairFact, Bit, Zero}
+use Rattle.uz_cert_laws.proofs.Common.{One, Free, raw_of, range, one_number, is_default, is_any_pair, first_facts, bytes_forms}
+use Rattle.uz_cert_laws.proofs.Common.{pair_forms, tracked_count, names_c_or_z, any_names, tracked_before, is_flag_z, take_item}
+use Rattle.uz_cert_laws.proofs.Common.{items_from, read_items, Raw, Shape, Facts, numbers_from, register_item, pair_item, flag_item}
+use Rattle.uz_cert_laws.proofs.Common.{fact_word, pair_word, flag_word, named_items, named_place, successors_place, NamedValues, named_of}
+use Rattle.uz_cert_laws.proofs.Common.{with_named, All, AnyPair, BetweenPair, OldBit, letters_of_pairs, letters_of_flags, spelled}
 use Rattle.uz_cert_laws.proofs.Tests.{three_of, same_number, both_true, given, fine_is, and_true, or_false, fine, fault_not, true_not}
 use Rattle.uz_cert_laws.proofs.Tests.{refuted, neither, then, le_is, word_is, is_lt, is_not_lt}
-use Rattle.uz_cert_laws.proofs.Common.{ends, Main, Handler, Alone, inr, CertWhy, inl, Result, pair_of, line, is_carry_and_zero_default}
-use Rattle.uz_cert_laws.proofs.Common.{PairFits, BitFits, ◌≡◌, ℕ, zero, suc, ◌+◌, ◌<◌, ◌≤◌, Bool, true, false, cond, not, ◌&&◌, ◌||◌, eqb}
-use Rattle.uz_cert_laws.proofs.Common.{leb, ltb, List, [], ◌∷◌, ◌++◌, map, length, take, get_or, decimal, codes, bytes_eq, lit<, lit≤}
-use Rattle.uz_cert_laws.proofs.Common.{refl, sym, ◌∙◌, ap, subst, append_assoc, append-nil, add-one, length-append, arith, Some, Ok, Err}
-use Rattle.uz_cert_laws.proofs.Common.{slice_get, slice_set, All-head, All-tail, decimal_digit, rises_from, rises, tracks, is_zero_or_one}
-use Rattle.uz_cert_laws.proofs.Common.{is_default_flag, Kind, Cell, Fact, PairFact, Bit, Zero, One, Free, raw_of, range, one_number}
-use Rattle.uz_cert_laws.proofs.Common.{is_default, is_any_pair, first_facts, bytes_forms, pair_forms, tracked_count, names_c_or_z}
-use Rattle.uz_cert_laws.proofs.Common.{any_names, tracked_before, is_flag_z, take_item, items_from, read_items, Raw, Shape, Facts}
-use Rattle.uz_cert_laws.proofs.Common.{numbers_from, register_item, pair_item, flag_item, fact_word, pair_word, flag_word, named_items}
-use Rattle.uz_cert_laws.proofs.Common.{named_place, successors_place, NamedValues, named_of, with_named, All, AnyPair, BetweenPair}
-use Rattle.uz_cert_laws.proofs.Common.{OldBit, letters_of_pairs, letters_of_flags, spelled}
 use Rattle.uz_cert_laws.proofs.ReadItems.{tells_flags, TellsFlags, items_only, ShapeFits, IsMeant}
 use Rattle.uz_cert_laws.proofs.ItemForms.{form_takes, pair, listed, flag, successor, slot, register, cell, HasForm, cell_form}
 use Rattle.uz_cert_laws.proofs.ItemForms.{pair_letter, flag_letter}
@@ -20,6 +19,7 @@ use Rattle.uz_cert_laws.proofs.Spelled.{pair_usual_only, registers, numbered_cel
 use Rattle.uz_cert_laws.proofs.Spelled.{usual_bit, usual_cell, registers_usual, cells_usual, register_only, flag_usual_only}
 use Rattle.uz_cert_laws.proofs.Spelled.{range_only_usual}
 use Rattle.uz_cert_laws.proofs.GrowingFacts.{registers_list, pairs_list, flags_list, cells_list}
+use Rattle.std.proofs.Math.Seq.{take-append_seam}
 use Rattle.uz_cert_laws.proofs.{Named.sets_between, Named.or_second, Named.Say, Named.usuals, Named.listed_read, Facts.FactIn}
 use Rattle.uz_cert_laws.proofs.{Facts.pair_so, Facts.one_raw, Sections.Each, Sections.Ordered, Sections.options_read}
 use Rattle.uz_cert_lines.specs.declared.values.Raw.TheVariants as raw
@@ -60,7 +60,7 @@ count_push kind (p ∷ pre) x = by_own (tracks kind p.owner) (tracks kind x.owne
 
 flag_z_so : (shape : Shape) (f : Facts) (x : Bit) (later : List (List ℕ)) → any_names later ≡ false → is_flag_z shape f (flag_word x)
     later ≡ true
-flag_z_so shape f Zero later e = or_second (shape.plain || ltb 35 f.least) (not (any_names later)) (ap not e)
+flag_z_so shape f Zero later e = grind (arith, nat_tests)
 flag_z_so shape f One later e = or_second (shape.plain || ltb 35 f.least) (not (any_names later)) (ap not e)
 flag_z_so shape f Free later e = or_second (shape.plain || ltb 35 f.least) true refl
 flag_z_so shape f OldBit later e = or_second (shape.plain || ltb 35 f.least) true refl
