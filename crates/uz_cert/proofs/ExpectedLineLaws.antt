@@ -36,67 +36,49 @@ pub record IsWhole (d : Draft) : Type 0 where
   pub points : d.sizes.points ≤ length d.points
   pub ended : d.ended ≡ true
 
-abbrev DueIs : Draft → Option ExpectedLine → Type 0
-DueIs d None = IsWhole d
-DueIs d (Some expected) = IsExpected d expected
+-- due after all runs
+abbrev is_late : Option ExpectedLine → Bool
+is_late None = true
+is_late (Some expected.Rest) = true
+is_late (Some expected.Entry) = true
+is_late (Some expected.Point) = true
+is_late (Some expected.End) = true
+is_late (Some early) = false
 
--- a test leads to one of two
-choose : {A : Type 0} (P : A → Type 0) (t : Bool) (x y : A) → (t ≡ true → P x) → (t ≡ false → P y) → P (cond t x y)
-choose P true x y h k = h refl
-choose P false x y h k = k refl
-
-states_due : (d : Draft) → InStates d → DueIs d (expected_in_states d)
-states_due d h =
-    choose (DueIs d) (ltb (length d.rests) d.sizes.rests) _ _ (λ t. (h, ltb-true (length d.rests) d.sizes.rests t))
-    (λ r. choose (DueIs d) (lacks d.entry) _ _ (λ t. (h, ltb-false (length d.rests) d.sizes.rests r, t))
-    (λ e. choose (DueIs d) (ltb (length d.points) d.sizes.points) _ _
-    (λ t. (h, ltb-false (length d.rests) d.sizes.rests r, e, ltb-true (length d.points) d.sizes.points t))
-    (λ p. choose (DueIs d) d.ended _ _
-    (λ t. record {
-      states = h;
-      rests = ltb-false (length d.rests) d.sizes.rests r;
-      entry = e;
-      points = ltb-false (length d.points) d.sizes.points p;
-      ended = t;
-    })
-    (λ f. (h, ltb-false (length d.points) d.sizes.points p, f)))))
-
-none_owed : (n : ℕ) → ltb 0 n ≡ false → n ≡ 0
-none_owed n e = let few = ltb-false 0 n e in omega (arith, few)
-
-schedule_due : (d : Draft) → IsAfterCells d → DueIs d (expected_in_schedule d)
-schedule_due d h =
-    choose (DueIs d) (ltb 0 d.owed) _ _ (λ t. (h, ltb-true 0 d.owed t))
-    (λ o. choose (DueIs d) (ltb (length d.kinds) d.sizes.kinds) _ _
-    (λ t. (h, none_owed d.owed o, ltb-true (length d.kinds) d.sizes.kinds t))
-    (λ k. choose (DueIs d) (eqb d.fall 0) _ _
-    (λ t. (h, none_owed d.owed o, ltb-false (length d.kinds) d.sizes.kinds k, eqb-true d.fall 0 t))
-    (λ f. choose (DueIs d) (ltb (length d.lines) d.sizes.lines) _ _
-    (λ t. (h, eqb-false d.fall 0 f, ltb-true (length d.lines) d.sizes.lines t))
-    (λ l. states_due d (record {
-      after = h;
-      none_owed = none_owed d.owed o;
-      kinds = ltb-false (length d.kinds) d.sizes.kinds k;
-      fall = eqb-false d.fall 0 f;
-      lines = ltb-false (length d.lines) d.sizes.lines l;
-    })))))
-
-all_due : (d : Draft) → 1 ≤ d.read → DueIs d (expected_line d)
+in_states : (d : Draft) (x : Option ExpectedLine) → 1 ≤ d.read → expected_line d ≡ x → is_late x ≡ true → InStates d
 unfolding expected_line
-all_due d some =
-    choose (DueIs d) (eqb d.read 1) _ _ (λ t. eqb-true d.read 1 t)
-    (λ a. choose (DueIs d) (eqb d.read 2) _ _ (λ t. eqb-true d.read 2 t)
-    (λ b. choose (DueIs d) (eqb d.read 3) _ _ (λ t. eqb-true d.read 3 t)
-    (λ c.
-    let body : 4 ≤ d.read = omega (arith, some, eqb-false d.read 1 a, eqb-false d.read 2 b, eqb-false d.read 3 c) in
-    choose (DueIs d) (ltb (length d.head.cells.items) d.sizes.cells) _ _ (λ t. (body, ltb-true (length d.head.cells.items) d.sizes.cells t))
-    (λ m. schedule_due d (record { body = body; cells = ltb-false (length d.head.cells.items) d.sizes.cells m })))))
+in_states d x some e late = record {
+  after = grind (arith, nat_tests);
+  none_owed = grind (arith, nat_tests);
+  kinds = grind (arith, nat_tests);
+  fall = grind (arith, nat_tests);
+  lines = grind (arith, nat_tests);
+}
 
 pub is_expected : (d : Draft) (expected : ExpectedLine) → 1 ≤ d.read → expected_line d ≡ Some expected → IsExpected d expected
-is_expected d expected some e = subst (DueIs d) e (all_due d some)
+unfolding expected_line
+is_expected d expected.Size some e = grind (arith, nat_tests)
+is_expected d expected.Irq some e = grind (arith, nat_tests)
+is_expected d expected.Stack some e = grind (arith, nat_tests)
+is_expected d expected.Cell some e = grind (arith, nat_tests)
+is_expected d expected.Event some e = grind (arith, nat_tests)
+is_expected d expected.Kind some e = grind (arith, nat_tests)
+is_expected d expected.Fall some e = grind (arith, nat_tests)
+is_expected d expected.Run some e = grind (arith, nat_tests)
+is_expected d expected.Rest some e = (in_states d (Some expected.Rest) some e refl, grind (arith, nat_tests))
+is_expected d expected.Entry some e = (in_states d (Some expected.Entry) some e refl, grind (arith, nat_tests), grind (arith, nat_tests))
+is_expected d expected.Point some e = (in_states d (Some expected.Point) some e refl, grind (arith, nat_tests), grind (arith, nat_tests), grind (arith, nat_tests))
+is_expected d expected.End some e = (in_states d (Some expected.End) some e refl, grind (arith, nat_tests), grind (arith, nat_tests))
 
 pub is_whole : (d : Draft) → 1 ≤ d.read → expected_line d ≡ None → IsWhole d
-is_whole d some e = subst (DueIs d) e (all_due d some)
+unfolding expected_line
+is_whole d some e = record {
+  states = in_states d None some e refl;
+  rests = grind (arith, nat_tests);
+  entry = grind (arith, nat_tests);
+  points = grind (arith, nat_tests);
+  ended = grind (arith, nat_tests);
+}
 
 -- how far a text was read
 
@@ -123,9 +105,6 @@ PastPoints d e = PastEntry d e × (d.sizes.points ≡ length d.points)
 
 -- tests
 
-pub less_false : (a b : ℕ) → b ≡ a → ltb a b ≡ false
-less_false a b h = grind (arith, nat_tests)
-
 pub not_equal : (a b : ℕ) → b < a → eqb a b ≡ false
 not_equal a b h = grind (arith, nat_tests)
 
@@ -136,106 +115,52 @@ equal a b h = grind (arith, nat_tests)
 
 pub due_size : (d : Draft) → d.read ≡ 1 → expected_line d ≡ Some expected.Size
 unfolding expected_line
-due_size d h = pick (eqb d.read 1) _ _ (equal d.read 1 h)
+due_size d h = grind (arith, nat_tests)
 
 pub due_irq : (d : Draft) → d.read ≡ 2 → expected_line d ≡ Some expected.Irq
 unfolding expected_line
-due_irq d h = pass (eqb d.read 1) _ _ (not_equal d.read 1 (omega (arith, h))) ∙ pick (eqb d.read 2) _ _ (equal d.read 2 h)
+due_irq d h = grind (arith, nat_tests)
 
 pub due_stack : (d : Draft) → d.read ≡ 3 → expected_line d ≡ Some expected.Stack
 unfolding expected_line
-due_stack d h =
-    pass (eqb d.read 1) _ _ (not_equal d.read 1 (omega (arith, h))) ∙ (pass (eqb d.read 2) _ _ (not_equal d.read 2 (omega (arith, h)))
-    ∙ pick (eqb d.read 3) _ _ (equal d.read 3 h))
-
-past_head : (d : Draft) → 4 ≤ d.read → expected_line d ≡ cond (ltb (length d.head.cells.items) d.sizes.cells) (Some expected.Cell) (expected_in_schedule d)
-unfolding expected_line
-past_head d h =
-    pass (eqb d.read 1) _ _ (not_equal d.read 1 (omega (arith, h))) ∙ (pass (eqb d.read 2) _ _ (not_equal d.read 2 (omega (arith, h)))
-    ∙ pass (eqb d.read 3) _ _ (not_equal d.read 3 (omega (arith, h))))
+due_stack d h = grind (arith, nat_tests)
 
 pub due_cell : (d : Draft) → 4 ≤ d.read → length d.head.cells.items < d.sizes.cells → expected_line d ≡ Some expected.Cell
-due_cell d h room = past_head d h ∙ pick (ltb (length d.head.cells.items) d.sizes.cells) _ _
-    (less_true (length d.head.cells.items) d.sizes.cells room)
-
-past_cells : (d : Draft) → 4 ≤ d.read → PastCells d → expected_line d ≡ expected_in_schedule d
-past_cells d b p = past_head d b ∙ pass (ltb (length d.head.cells.items) d.sizes.cells) _ _
-    (less_false (length d.head.cells.items) d.sizes.cells p)
-
--- the lines of the schedule
+unfolding expected_line
+due_cell d b room = grind (arith, nat_tests)
 
 pub due_event : (d : Draft) → 4 ≤ d.read → PastCells d → 1 ≤ d.owed → expected_line d ≡ Some expected.Event
-due_event d b p h = past_cells d b p ∙ pick (ltb 0 d.owed) _ _ (less_true 0 d.owed h)
+unfolding expected_line
+due_event d b p h = grind (arith, nat_tests)
 
 pub due_kind : (d : Draft) → 4 ≤ d.read → PastCells d → d.owed ≡ 0 → length d.kinds < d.sizes.kinds → expected_line d ≡ Some expected.Kind
-due_kind d b p o room =
-    past_cells d b p ∙ (pass (ltb 0 d.owed) _ _ (less_false 0 d.owed o) ∙ pick (ltb (length d.kinds) d.sizes.kinds) _ _
-    (less_true (length d.kinds) d.sizes.kinds room))
-
-past_kinds : (d : Draft) → 4 ≤ d.read → PastKinds d → expected_line d ≡ cond (eqb d.fall 0) (Some expected.Fall)
-    (cond (ltb (length d.lines) d.sizes.lines) (Some expected.Run) (expected_in_states d))
-past_kinds d b p =
-    past_cells d b p.0 ∙ (pass (ltb 0 d.owed) _ _ (less_false 0 d.owed p.1)
-    ∙ pass (ltb (length d.kinds) d.sizes.kinds) _ _ (less_false (length d.kinds) d.sizes.kinds p.2))
+unfolding expected_line
+due_kind d b p o room = grind (arith, nat_tests)
 
 pub due_fall : (d : Draft) → 4 ≤ d.read → PastKinds d → d.fall ≡ 0 → expected_line d ≡ Some expected.Fall
-due_fall d b p h = past_kinds d b p ∙ pick (eqb d.fall 0) _ _ (equal d.fall 0 h)
-
-past_fall : (d : Draft) → 4 ≤ d.read → PastFall d → expected_line d ≡ cond (ltb (length d.lines) d.sizes.lines) (Some expected.Run) (expected_in_states d)
-past_fall d b p = past_kinds d b p.0 ∙ pass (eqb d.fall 0) _ _ (not_equal d.fall 0 p.1)
+unfolding expected_line
+due_fall d b p h = grind (arith, nat_tests)
 
 pub due_run : (d : Draft) → 4 ≤ d.read → PastFall d → length d.lines < d.sizes.lines → expected_line d ≡ Some expected.Run
-due_run d b p room = past_fall d b p ∙ pick (ltb (length d.lines) d.sizes.lines) _ _ (less_true (length d.lines) d.sizes.lines room)
-
--- the lines of states
-
-past_runs : (d : Draft) → 4 ≤ d.read → PastRuns d → expected_line d ≡ expected_in_states d
-past_runs d b p = past_fall d b p.0 ∙ pass (ltb (length d.lines) d.sizes.lines) _ _ (less_false (length d.lines) d.sizes.lines p.1)
+unfolding expected_line
+due_run d b p room = grind (arith, nat_tests)
 
 pub due_rest : (d : Draft) → 4 ≤ d.read → PastRuns d → length d.rests < d.sizes.rests → expected_line d ≡ Some expected.Rest
-due_rest d b p room = past_runs d b p ∙ pick (ltb (length d.rests) d.sizes.rests) _ _ (less_true (length d.rests) d.sizes.rests room)
-
-past_rests : (d : Draft) → 4 ≤ d.read → PastRests d
-    → expected_line d ≡ cond (lacks d.entry) (Some expected.Entry) (cond (ltb (length d.points) d.sizes.points) (Some expected.Point)
-    (cond d.ended None (Some expected.End)))
-past_rests d b p = past_runs d b p.0 ∙ pass (ltb (length d.rests) d.sizes.rests) _ _ (less_false (length d.rests) d.sizes.rests p.1)
+unfolding expected_line
+due_rest d b p room = grind (arith, nat_tests)
 
 pub due_entry : (d : Draft) → 4 ≤ d.read → PastRests d → d.entry ≡ None → expected_line d ≡ Some expected.Entry
-due_entry d b p h = past_rests d b p ∙ pick (lacks d.entry) _ _ (ap lacks h)
-
-past_entry : (d : Draft) (e : Entry) → 4 ≤ d.read → PastEntry d e → expected_line d ≡ cond (ltb (length d.points) d.sizes.points) (Some expected.Point)
-    (cond d.ended None (Some expected.End))
-past_entry d e b p = past_rests d b p.0 ∙ pass (lacks d.entry) _ _ (ap lacks p.1)
+unfolding expected_line
+due_entry d b p h = grind (arith, nat_tests)
 
 pub due_point : (d : Draft) (e : Entry) → 4 ≤ d.read → PastEntry d e → length d.points < d.sizes.points → expected_line d ≡ Some expected.Point
-due_point d e b p room = past_entry d e b p ∙ pick (ltb (length d.points) d.sizes.points) _ _
-    (less_true (length d.points) d.sizes.points room)
+unfolding expected_line
+due_point d e b p room = grind (arith, nat_tests)
 
 pub due_end : (d : Draft) (e : Entry) → 4 ≤ d.read → PastPoints d e → d.ended ≡ false → expected_line d ≡ Some expected.End
-due_end d e b p h =
-    past_entry d e b p.0 ∙ (pass (ltb (length d.points) d.sizes.points) _ _ (less_false (length d.points) d.sizes.points p.1)
-    ∙ pass d.ended _ _ h)
+unfolding expected_line
+due_end d e b p h = grind (arith, nat_tests)
 
 pub due_none : (d : Draft) (e : Entry) → 4 ≤ d.read → PastPoints d e → d.ended ≡ true → expected_line d ≡ None
-due_none d e b p h =
-    past_entry d e b p.0 ∙ (pass (ltb (length d.points) d.sizes.points) _ _ (less_false (length d.points) d.sizes.points p.1)
-    ∙ pick d.ended _ _ h)
-
-try_run : (d : Draft) → 4 ≤ d.read → PastFall d → length d.lines < d.sizes.lines → expected_line d ≡ Some expected.Run
 unfolding expected_line
-try_run d b p room = grind (arith, nat_tests)
-
-try_run2 : (d : Draft) → 4 ≤ d.read → PastFall d → length d.lines < d.sizes.lines → expected_line d ≡ Some expected.Run
-unfolding expected_line
-try_run2 d b p room =
-    simp (not_equal d.read 1 (omega (arith, b)), not_equal d.read 2 (omega (arith, b)), not_equal d.read 3 (omega (arith, b)),
-    less_false (length d.head.cells.items) d.sizes.cells p.0.0, less_false 0 d.owed p.0.1.0, less_false (length d.kinds) d.sizes.kinds p.0.1.1,
-    not_equal d.fall 0 p.1, less_true (length d.lines) d.sizes.lines room)
-
-try_cell : (d : Draft) → 4 ≤ d.read → length d.head.cells.items < d.sizes.cells → expected_line d ≡ Some expected.Cell
-unfolding expected_line
-try_cell d b room = grind (arith, nat_tests)
-
-try_stack : (d : Draft) → d.read ≡ 3 → expected_line d ≡ Some expected.Stack
-unfolding expected_line
-try_stack d h = grind (arith, nat_tests)
+due_none d e b p h = grind (arith, nat_tests)
