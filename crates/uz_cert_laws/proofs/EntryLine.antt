@@ -1,12 +1,12 @@
 -- The line of an entry.
-use Rattle.uz_cert_laws.proofs.Common.{All-weaker, ◌≡◌, ℕ, zero, suc, ◌<◌, ◌≤◌, Bool, true, false, cond, ◌&&◌, eqb, List, [], ◌∷◌, ◌++◌}
-use Rattle.uz_cert_laws.proofs.Common.{map, length, decimal, codes, lit≤, refl, sym, ◌∙◌, ap, subst, append-nil, arith, Ok, All-nil}
-use Rattle.uz_cert_laws.proofs.Common.{All-cons, All-head, All-tail, Ends, clock_limit, RangeFits, CellFits, BitFits, Kind, Main, Handler}
-use Rattle.uz_cert_laws.proofs.Common.{Alone, Cell, Head, Fact, Words, choice_of, range_fact, is_handler, bytes_forms, LineForm, number}
-use Rattle.uz_cert_laws.proofs.Common.{items, reads, within, one_of, none_in_main, span_of_fact, FactForms, Facts, ParsedLine, kind_word}
-use Rattle.uz_cert_laws.proofs.Common.{register_items, pair_items, flag_items, slot_items, cell_items, listed_items, successor_items}
-use Rattle.uz_cert_laws.proofs.Common.{named_items, named_of, usual_facts, All, AnyPair, line, PlacesAre, word_at, Parts, says, spells}
-use Rattle.uz_cert_laws.proofs.Common.{letters_of_pairs, letters_of_flags, spelled}
+use Rattle.uz_cert_laws.proofs.Common.{Shape, nat_tests, All-weaker, ◌≡◌, ℕ, zero, suc, ◌<◌, ◌≤◌, Bool, true, false, cond, ◌&&◌, eqb}
+use Rattle.uz_cert_laws.proofs.Common.{List, [], ◌∷◌, ◌++◌, map, length, decimal, codes, lit≤, refl, sym, ◌∙◌, ap, subst, append-nil}
+use Rattle.uz_cert_laws.proofs.Common.{arith, Ok, All-nil, All-cons, All-head, All-tail, Ends, clock_limit, RangeFits, CellFits, BitFits}
+use Rattle.uz_cert_laws.proofs.Common.{Kind, Main, Handler, Alone, Cell, Head, Fact, Words, choice_of, range_fact, is_handler}
+use Rattle.uz_cert_laws.proofs.Common.{bytes_forms, LineForm, number, items, reads, within, one_of, none_in_main, span_of_fact, FactForms}
+use Rattle.uz_cert_laws.proofs.Common.{Facts, ParsedLine, kind_word, register_items, pair_items, flag_items, slot_items, cell_items}
+use Rattle.uz_cert_laws.proofs.Common.{listed_items, successor_items, named_items, named_of, usual_facts, All, AnyPair, line, PlacesAre}
+use Rattle.uz_cert_laws.proofs.Common.{word_at, Parts, says, spells, letters_of_pairs, letters_of_flags, spelled}
 use Rattle.uz_schedule.specs.WellFormed.{SpansFit, EntryKindFits, EntryFactsFit, EntryFits}
 use Rattle.uz_cert_laws.proofs.FormLaws.{Fit, SaysFacts, IsReadable, form_again, form_only}
 use Rattle.uz_cert_laws.proofs.Fitting.{each_of_all, all_of_each, all_map, map_back, range_in, SaysRange, says_range, span_back}
@@ -32,14 +32,13 @@ entry_after h lines points kind =
 pub ranges_of : (h : Head) (cells : List Cell) → All (CellFits h) cells → All (λ c. RangeFits 255 c.range) cells
 ranges_of h cells a = All-weaker (CellFits h) (λ c. RangeFits 255 c.range) (λ c f. f.range) cells a
 
-pub shape_fits : (h : Head) (lines points : ℕ) (kind : Kind) (plain : Bool) → PlacesAre h lines points → (kind ≡ Handler → plain ≡ false)
-    → ShapeFits (shape_of h kind plain points) h.cells.items
-shape_fits h lines points kind plain a w =
-    record {
-      places = record { few = a.few; bytes = bytes_of h h.cells.items a.each; points = omega (arith, a.points_few) };
-      whole = w;
-      ranges = ranges_of h h.cells.items a.each;
-    }
+pub shape_fits : (h : Head) (lines points : ℕ) (shape : Shape) → PlacesAre h lines points → shape.points ≡ points
+    → (shape.kind ≡ Handler → shape.plain ≡ false) → ShapeFits shape h.cells.items
+shape_fits h lines points shape a e w = record {
+  places = record { few = a.few; bytes = bytes_of h h.cells.items a.each; points = omega (arith, a.points_few, e) };
+  whole = w;
+  ranges = ranges_of h h.cells.items a.each;
+}
 
 at_begin : (kind : Kind) (e : Entry) → EntryKindFits kind e → kind ≡ Main → (e.line ≡ 0) × (e.clock ≡ 0)
 at_begin Main e h f = h
@@ -112,17 +111,13 @@ after_sound h lines points kind a n =
     let lines_small = none_small kind lines (omega arith) in
     let clocks_small = none_small kind clock_limit (lit≤ tt) in
     both_of (omega arith) (λ id i. both_of (lit≤ tt) (λ pc j. both_of (omega (arith, lines_small)) (λ line k.
-    both_of (omega (arith, clocks_small)) (λ clock o. (shape_fits h lines points kind true a n, entry_says kind id pc line clock)))))
+    both_of (omega (arith, clocks_small)) (λ clock o. (shape_fits h lines points (shape_of h kind true points) a refl n, entry_says kind id pc line clock)))))
 
 abbrev entry_kinds : List (List ℕ)
 entry_kinds = codes "main" ∷ codes "alone" ∷ []
 
 not_handler : (n : ℕ) → entry_kind n ≡ Handler → true ≡ false
-not_handler n e = by_test (eqb n 0) e
-  where
-    by_test : (t : Bool) → cond t Main Alone ≡ Handler → true ≡ false
-    by_test true e = absurd cc
-    by_test false e = absurd cc
+not_handler n e = grind (arith, nat_tests)
 
 pub entry_sound : (h : Head) (lines points : ℕ) → PlacesAre h lines points → IsReadable (entry_form h lines points)
 entry_sound h lines points a = λ n. after_sound h lines points (entry_kind n) a (not_handler n)

@@ -46,10 +46,7 @@ Reads f w r = (w ≡ raw_word r) × RawFits f r
 
 whole_only : (f : FactForms) (cs : List ℕ) (r : Raw) → whole f cs ≡ Ok r → Reads f (42 ∷ cs) r
 whole_only f (c ∷ cs) r e = absurd cc
-whole_only f [] r e =
-    let p = passed ((eqb f.low 0) && ltb f.top f.limit) (Ok raw.All) why.Limit r e in
-    let two = and_true (eqb f.low 0) (ltb f.top f.limit) p.0 in
-    given (Reads f (42 ∷ [])) raw.All r p.1 (refl, (number_is f.low 0 two.0, lt_is f.top f.limit two.1))
+whole_only f [] r e = grind (arith, nat_tests)
 
 plus_parts : (a b w : List ℕ) (m n : ℕ) → a ≡ decimal m → b ≡ decimal n → w ≡ a ++ 43 ∷ b → (c : ℕ)
     → c ∷ 42 ∷ w ≡ slope_word (c ∷ []) m n
@@ -186,9 +183,7 @@ not_f w d = refuted (bytes_eq w (codes "f")) (λ e. other d.0 d.1 (sym d.2 ∙ w
 
 raw_so : (f : FactForms) (r : Raw) → f.limit ≤ 2 ^ 32 → RawFits f r → raw_of f (raw_word r) ≡ Ok r
 unfolding raw_of
-raw_so f raw.All h i =
-    so ((eqb f.low 0) && ltb f.top f.limit) (Ok raw.All) (Err why.Limit)
-    (both_true (eqb f.low 0) (ltb f.top f.limit) (ap (λ n. eqb n 0) i.0) (is_lt f.top f.limit i.1))
+raw_so f raw.All h i = grind (arith, nat_tests)
 raw_so f (raw.One n) h i = one_raw f n h i
 raw_so f (raw.Two lo hi) h i =
     digit_first f (decimal lo ++ codes ".." ++ decimal hi) (raw.Two lo hi)
@@ -197,11 +192,7 @@ raw_so f (raw.Two lo hi) h i =
 raw_so f (raw.Line a b) h i = sloped_so true f a b h i
 raw_so f (raw.Loop a b) h i = sloped_so false f a b h i
 raw_so f (raw.Old r) h i =
-    so f.old (cond (bytes_eq (decimal r) (codes "f")) (Ok raw.OldFlags) (one_number 0 32 (decimal r) >>= (λ n. Ok (raw.Old n))))
-    (Err why.Word) i.0
-    ∙ else_so (bytes_eq (decimal r) (codes "f")) (Ok raw.OldFlags) (one_number 0 32 (decimal r) >>= (λ n. Ok (raw.Old n)))
-    (not_f (decimal r) (first_digit r (omega (arith, i.1))))
-    ∙ then (one_number 0 32 (decimal r)) (λ n. Ok (raw.Old n)) r (Ok (raw.Old r)) (one_so 0 32 r (lit≤ tt) (omega arith) i.1) refl
+    grind (arith, nat_tests, not_f (decimal r) (first_digit r (omega (arith, i.1))), one_so 0 32 r (lit≤ tt) (omega arith) i.1)
 raw_so f raw.OldFlags h i = so f.old (Ok raw.OldFlags) (Err why.Word) i
 
 -- ranges that aren't the whole one: what is read as one, and that each is read
@@ -210,10 +201,7 @@ not_whole : (top lo hi : ℕ) → hi ≤ top → (eqb lo 0 && eqb hi top) ≡ fa
 not_whole top lo hi h t = grind (arith, nat_tests)
 
 pub part_not_whole : (top : ℕ) (e : Ends) → PartFits top e → (eqb e.lo 0 && eqb e.hi top) ≡ false
-part_not_whole top e h = by_side h.part
-  where
-    by_side : (0 < e.lo) ⊎ (e.hi < top) → (eqb e.lo 0 && eqb e.hi top) ≡ false
-    by_side d = grind (arith, nat_tests)
+part_not_whole top e h = grind (arith, nat_tests, h.part)
 
 pub part_from : (e : Ends) → RangeFits 255 e → (eqb e.lo 0 && eqb e.hi 255) ≡ false → PartFits 255 e
 part_from e h t = record { range = h; part = not_whole 255 e.lo e.hi h.high t }
@@ -231,27 +219,11 @@ ReadsPart top f w e = (w ≡ ends_word top e) × PartIn top f e
 
 one_part : (top : ℕ) (f : FactForms) (w : List ℕ) (n : ℕ) → 0 < top → f.limit ≤ top + 1 → w ≡ decimal n → InForms f n
     → ReadsPart top f w (ends n n)
-one_part top f w n some h e i = (
-  e ∙ sym (else_so (eqb n 0 && eqb n top) (codes "*") (range_word (ends n n)) (grind (arith, nat_tests))
-      ∙ so (eqb n n) (decimal n) (decimal n ++ codes ".." ++ decimal n) (same_number n)),
-  (record { range = record { order = omega arith; high = omega (arith, h, i.1) }; part = either n }, i.0, i.1),
-)
-  where
-    either : (n : ℕ) → (0 < n) ⊎ (n < top)
-    either zero = inr some
-    either (suc n) = inl (omega arith)
+one_part top f w n some h e i = grind (arith, nat_tests)
 
 two_part : (top : ℕ) (f : FactForms) (w : List ℕ) (lo hi : ℕ) → f.limit ≤ top + 1 → w ≡ decimal lo ++ codes ".." ++ decimal hi
     → InForms f lo × InForms f hi → is_ordered top lo hi ≡ true → ReadsPart top f w (ends lo hi)
-two_part top f w lo hi h e i o =
-    let two = and_true (ltb lo hi) (not (eqb lo 0 && eqb hi top)) o in
-    let below : lo < hi = lt_is lo hi two.0 in
-    let high : hi ≤ top = omega (arith, h, i.1.1) in
-    let part = not_true (eqb lo 0 && eqb hi top) two.1 in (
-      e ∙ sym (else_so (eqb lo 0 && eqb hi top) (codes "*") (range_word (ends lo hi)) part
-          ∙ else_so (eqb lo hi) (decimal lo) (decimal lo ++ codes ".." ++ decimal hi) (not_number lo hi (λ x. omega (arith, below, x)))),
-      (record { range = record { order = omega arith; high = high }; part = not_whole top lo hi high part }, i.0.0, i.1.1),
-    )
+two_part top f w lo hi h e i o = grind (arith, nat_tests)
 
 -- a word for it that is read as a number or two, from which this is made
 abbrev IsFound : {A : Type 0} → FactForms → (Raw → Result A CertWhy) → A → Type 0
@@ -273,9 +245,7 @@ part_found of make top f e h i one two = by_test (eqb e.lo e.hi) refl
     high = (omega (arith, order, i.1), i.2)
 
     ordered : e.lo ≢ e.hi → is_ordered top e.lo e.hi ≡ true
-    ordered x =
-        both_true (ltb e.lo e.hi) (not (eqb e.lo 0 && eqb e.hi top)) (is_lt e.lo e.hi (omega (arith, order, x)))
-        (ap not (part_not_whole top e i.0))
+    ordered x = grind (arith, nat_tests, order, part_not_whole top e i.0)
 
     by_test : (t : Bool) → eqb e.lo e.hi ≡ t → (r : Raw) × RawFits f r × (of r ≡ Ok (make e)) × (range f (raw_word r) ≡ Ok r)
     by_test true t = (
@@ -406,7 +376,7 @@ span_only range w e h g =
     by_part m.0 two (ends_by (span_forms range) w m.0 e (omega arith) two m.2)
   where
     inside : (x : Ends) → range.lo ≤ x.lo → x.hi < range.hi + 1 → is_within x range ≡ true
-    inside x l k = both_true (leb range.lo x.lo) (leb x.hi range.hi) (is_le range.lo x.lo l) (is_le x.hi range.hi (omega arith))
+    inside x l k = grind (arith, nat_tests)
 
     by_part : (r : Raw) → Reads (span_forms range) w r → ReadsEnds (span_forms range) w r e
         → (w ≡ ends_word 255 e) × RangeFits 255 e × (is_within e range ≡ true)

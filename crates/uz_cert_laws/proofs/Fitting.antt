@@ -1,9 +1,9 @@
 -- What a well formed certificate lets be said of states is what the forms of their lines let in, and the other way round.
-use Rattle.uz_cert_laws.proofs.Common.{All-weaker, All-map, ◌≡◌, ℕ, suc, ◌+◌, ◌-◌, ◌*◌, ◌/◌, ◌<◌, ◌≤◌, ◌^◌, Bool, true, false, cond, not}
-use Rattle.uz_cert_laws.proofs.Common.{◌&&◌, eqb, leb, List, [], ◌∷◌, map, length, filter, lit<, lit≤, refl, sym, ◌∙◌, ap, subst, arith}
-use Rattle.uz_cert_laws.proofs.Common.{All-nil, All-cons, All-head, All-tail, Ends, is_within, tracks, RangeFits, FactFits, spans_fit}
-use Rattle.uz_cert_laws.proofs.Common.{Kind, Main, Handler, Alone, Cell, Fact, Any, Between, Line, Loop, Old, OldFlags, range_fact}
-use Rattle.uz_cert_laws.proofs.Common.{is_handler, bytes_forms, none_in_main, span_of_fact, FactForms, Shape, All}
+use Rattle.uz_cert_laws.proofs.Common.{nat_tests, All-weaker, All-map, ◌≡◌, ℕ, suc, ◌+◌, ◌-◌, ◌*◌, ◌/◌, ◌<◌, ◌≤◌, ◌^◌, Bool, true, false}
+use Rattle.uz_cert_laws.proofs.Common.{cond, not, ◌&&◌, eqb, leb, List, [], ◌∷◌, map, length, filter, lit<, lit≤, refl, sym, ◌∙◌, ap}
+use Rattle.uz_cert_laws.proofs.Common.{subst, arith, All-nil, All-cons, All-head, All-tail, Ends, is_within, tracks, RangeFits, FactFits}
+use Rattle.uz_cert_laws.proofs.Common.{spans_fit, Kind, Main, Handler, Alone, Cell, Fact, Any, Between, Line, Loop, Old, OldFlags}
+use Rattle.uz_cert_laws.proofs.Common.{range_fact, is_handler, bytes_forms, none_in_main, span_of_fact, FactForms, Shape, All}
 use Rattle.uz_cert_laws.proofs.Tests.{and_true, both_true, true_not, le_is, is_le, else_so, number_is, not_le}
 use Rattle.uz_cert_laws.proofs.Facts.{FactIn, handler_is, part_from, part_not_whole, whole_ends}
 use Rattle.uz_schedule.specs.WellFormed.{CellFactFits}
@@ -85,13 +85,7 @@ cell_out OldFlags h = true_not false h refl
 
 numbered_length : (kind : Kind) (i : ℕ) (cs : List Cell) → length (numbered_cells kind i cs) ≡ length (filter (λ c. tracks kind c.owner) cs)
 numbered_length kind i [] = refl
-numbered_length kind i (c ∷ cs) = by_own (tracks kind c.owner) (numbered_length kind (suc i) cs)
-  where
-    by_own : (t : Bool) → length (numbered_cells kind (suc i) cs) ≡ length (filter (λ c. tracks kind c.owner) cs)
-        → length (cond t ((i, c) ∷ numbered_cells kind (suc i) cs) (numbered_cells kind (suc i) cs))
-        ≡ length (cond t (c ∷ filter (λ c. tracks kind c.owner) cs) (filter (λ c. tracks kind c.owner) cs))
-    by_own true e = ap suc e
-    by_own false e = e
+numbered_length kind i (c ∷ cs) = grind (arith, numbered_length kind (suc i) cs)
 
 pub cells_in : (shape : Shape) (cells : List Cell) (fs : List Fact) → shape.plain ≡ false → length fs ≡ length
     (filter (λ c. tracks shape.kind c.owner) cells)
@@ -114,13 +108,7 @@ cells_out shape cells fs p h = (
 -- ranges of entries
 
 pub range_in : (f : FactForms) (e : Ends) → f.top ≡ 255 → RangeFits 255 e → f.low ≤ e.lo → e.hi < f.limit → FactIn f (range_fact e)
-range_in f e t h l k = by_whole (eqb e.lo 0 && eqb e.hi 255) refl
-  where
-    by_whole : (w : Bool) → (eqb e.lo 0 && eqb e.hi 255) ≡ w → FactIn f (cond w Any (Between e))
-    by_whole true w =
-        let two = and_true (eqb e.lo 0) (eqb e.hi 255) w in
-        (omega (arith, number_is e.lo 0 two.0), omega (arith, number_is e.hi 255 two.1))
-    by_whole false w = (part_from e h w, l, k)
+range_in f e t h l k = grind (arith, nat_tests, part_from e h)
 
 -- what a fact without slopes and old values says as a range
 pub record SaysRange (f : FactForms) (x : Fact) : Type 0 where
@@ -130,30 +118,17 @@ pub record SaysRange (f : FactForms) (x : Fact) : Type 0 where
   pub high : (span_of_fact x).hi < f.limit
 
 pub says_range : (f : FactForms) (x : Fact) → f.top ≡ 255 → f.sloped ≡ false → f.old ≡ false → FactIn f x → SaysRange f x
-says_range f Any t s o h = record {
-  back = refl;
-  fits = record { order = lit≤ tt; high = lit≤ tt };
-  low = omega (arith, h.0);
-  high = omega (arith, h.1, t);
-}
+says_range f Any t s o h = grind arith
 says_range f (Between e) t s o h =
-    record {
-      back = else_so (eqb e.lo 0 && eqb e.hi 255) Any (Between e) (part_not_whole 255 e h.0);
-      fits = h.0.range;
-      low = h.1;
-      high = h.2;
-    }
+    let back = else_so (eqb e.lo 0 && eqb e.hi 255) Any (Between e) (part_not_whole 255 e h.0) in
+    record { back = back; fits = h.0.range; low = h.1; high = h.2 }
 says_range f (Line a b) t s o h = absurd (true_not f.sloped h.0 s)
 says_range f (Loop a b) t s o h = absurd (true_not f.sloped h.0 s)
 says_range f (Old r) t s o h = absurd (true_not f.old h.0 o)
 says_range f OldFlags t s o h = absurd (true_not f.old h o)
 
 pub span_back : (e : Ends) → span_of_fact (range_fact e) ≡ e
-span_back e = by_whole (eqb e.lo 0 && eqb e.hi 255) refl
-  where
-    by_whole : (w : Bool) → (eqb e.lo 0 && eqb e.hi 255) ≡ w → span_of_fact (cond w Any (Between e)) ≡ e
-    by_whole true w = whole_ends e w
-    by_whole false w = refl
+span_back e = grind (arith, nat_tests, whole_ends e)
 
 -- ranges of cells in entries
 
@@ -213,10 +188,7 @@ spans_out kind i (c ∷ cs) fs h = by_own (tracks kind c.owner) fs h (λ gs g. s
         let rest = later gs h.1 in
         let high : (span_of_fact g).hi < c.range.hi + 1 = one.high in (
           All-cons (RangeFits 255) (span_of_fact g) (map span_of_fact gs) one.fits rest.0,
-          both_true (is_within (span_of_fact g) c.range) (spans_fit (filter (λ c. tracks kind c.owner) cs) (map span_of_fact gs))
-              (both_true (leb c.range.lo (span_of_fact g).lo) (leb (span_of_fact g).hi c.range.hi)
-              (is_le c.range.lo (span_of_fact g).lo one.low)
-              (is_le (span_of_fact g).hi c.range.hi (omega arith))) rest.1,
+          grind (arith, nat_tests, one.low, high, rest.1),
           ap (λ (x : Fact). x ∷ map range_fact (map span_of_fact gs)) one.back ∙ ap (λ (xs : List Fact). g ∷ xs) rest.2,
         )
 
@@ -229,14 +201,8 @@ under_none Alone limit n z b = b
 
 pub none_under : (kind : Kind) (limit n : ℕ) → 1 ≤ limit → n < none_in_main kind limit → (n < limit) × (kind ≡ Main → n ≡ 0)
 none_under Main limit n l b = (omega arith, λ e. omega arith)
-none_under Handler limit n l b = (b, λ e. absurd (apart e))
-  where
-    apart : ◌≡◌ {A = Kind} Handler Main → ⊥
-    apart e = cc
-none_under Alone limit n l b = (b, λ e. absurd (apart e))
-  where
-    apart : ◌≡◌ {A = Kind} Alone Main → ⊥
-    apart e = cc
+none_under Handler limit n l b = (b, λ e. absurd cc)
+none_under Alone limit n l b = (b, λ e. absurd cc)
 
 pub none_small : (kind : Kind) (limit : ℕ) → limit ≤ 2 ^ 31 → none_in_main kind limit ≤ 2 ^ 31
 none_small Main limit h = lit≤ tt

@@ -1,12 +1,10 @@
 -- Facts as they grow while items are read: what is spelled of them is what was read.
-use Rattle.uz_cert_laws.proofs.Common.{◌≡◌, ℕ, suc, ◌+◌, ◌-◌, ◌<◌, ◌≤◌, true, leb, List, [], ◌∷◌, ◌++◌, map, length, decimal, codes, lit≤}
-use Rattle.uz_cert_laws.proofs.Common.{refl, sym, ◌∙◌, ap, subst, add-one, length-append, arith, slice_set, rises_from, rises, Cell, Fact}
-use Rattle.uz_cert_laws.proofs.Common.{PairFits, BitFits, PairFact, Bit, is_default, bytes_forms, tracked_before, Shape, Facts}
-use Rattle.uz_cert_laws.proofs.Common.{register_item, pair_item, flag_item, fact_word, register_items, pair_items, flag_items, slot_items}
-use Rattle.uz_cert_laws.proofs.Common.{cell_items, successor_items, named_items, named_place, successors_place, NamedValues, named_of}
-use Rattle.uz_cert_laws.proofs.Common.{with_named, All, letters_of_pairs, letters_of_flags, spelled}
-use Rattle.std.specs.Prelude.{IsTrue}
-use Rattle.uz_cert_laws.specs.LineWords.{least_after}
+use Rattle.uz_cert_laws.proofs.Common.{nat_tests, ◌≡◌, ℕ, suc, ◌+◌, ◌-◌, ◌<◌, ◌≤◌, true, leb, List, [], ◌∷◌, ◌++◌, map, length, decimal}
+use Rattle.uz_cert_laws.proofs.Common.{codes, lit≤, refl, sym, ◌∙◌, ap, subst, add-one, length-append, arith, slice_set, rises_from}
+use Rattle.uz_cert_laws.proofs.Common.{rises, Cell, Fact, PairFits, BitFits, PairFact, Bit, is_default, bytes_forms, tracked_before}
+use Rattle.uz_cert_laws.proofs.Common.{Shape, Facts, register_item, pair_item, flag_item, fact_word, register_items, pair_items}
+use Rattle.uz_cert_laws.proofs.Common.{flag_items, slot_items, cell_items, successor_items, named_items, named_place, successors_place}
+use Rattle.uz_cert_laws.proofs.Common.{NamedValues, named_of, with_named, All, letters_of_pairs, letters_of_flags, spelled}
 use Rattle.uz_cert_laws.proofs.Spelled.{registers, numbered_cells, any_pair, usual_flag, in_range, cell_word, usual_fact, usual_pair}
 use Rattle.uz_cert_laws.proofs.Spelled.{usual_bit, usual_cell, registers_are, cells_are, register_default, flag_default, range_default}
 use Rattle.uz_cert_laws.proofs.Spelled.{register_at, cell_number, cells_before_next, cells_before_rise}
@@ -16,18 +14,18 @@ use Rattle.uz_cert_laws.proofs.ItemForms.{slot, cell, successor, cell_form, pair
 use Rattle.uz_cert_laws.proofs.Sections.{Section, IsSection, Sections, last, section, Values, FitAll, AreSections, TypeAt, section_at}
 use Rattle.uz_cert_laws.proofs.Sections.{value_at, with_value, after_from, Grown, grown, option_section, options_are, option_more}
 use Rattle.uz_cert_laws.proofs.Sections.{OptionList, AreOptions}
-use Rattle.uz_cert_laws.proofs.{Facts.FactIn, Tests.both_of, Tests.and_true, Tests.both_true, Tests.is_le}
-use Rattle.uz_cert_laws.proofs.{Tests.true_not, Named.listed_section, Named.listed_is, Named.SetsOne, Named.sets_between, Named.sets_more}
+use Rattle.uz_cert_laws.proofs.Named.{listed_section, listed_is, SetsOne, sets_between, sets_more}
+use Rattle.std.specs.Prelude.{IsTrue}
+use Rattle.uz_cert_laws.specs.LineWords.{least_after}
+use Rattle.uz_cert_laws.proofs.{Facts.FactIn, Tests.both_of, Tests.and_true, Tests.both_true, Tests.is_le, Tests.true_not}
 use Rattle.std.proofs.{lemmas.List.map-append, lemmas.List.Elements.All-push, lemmas.Option.slice_get-get_or}
 
 -- numbers that rise
 
 pub rises_more : (least : ℕ) (xs : List ℕ) (id : ℕ) → rises_from least xs ≡ true → least_after least xs ≤ id → rises_from least
     (xs ++ id ∷ []) ≡ true
-rises_more least [] id e h = both_true (leb least id) true (is_le least id h) refl
-rises_more least (x ∷ xs) id e h =
-    let two = and_true (leb least x) (rises_from (x + 1) xs) e in
-    both_true (leb least x) (rises_from (x + 1) (xs ++ id ∷ [])) two.0 (rises_more (x + 1) xs id two.1 h)
+rises_more least [] id e h = grind (arith, nat_tests)
+rises_more least (x ∷ xs) id e h = grind (arith, nat_tests, rises_more (x + 1) xs id)
 
 pub after_more : (least : ℕ) (xs : List ℕ) (id : ℕ) → id + 1 ≡ least_after least (xs ++ id ∷ [])
 after_more least [] id = refl

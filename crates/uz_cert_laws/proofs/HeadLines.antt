@@ -38,16 +38,7 @@ size_only words says e =
       record { kinds = p.0; lines = p.1.0; rests = p.1.1.0; points = p.1.1.1.0; cells = p.1.1.1.1.0 },
       r.1,
       r.2,
-      record {
-        kinds_some = f.0.low;
-        kinds_few = omega (arith, f.0.below);
-        lines_some = f.1.0.low;
-        lines_few = omega (arith, f.1.0.below);
-        rests_few = omega (arith, f.1.1.0.below);
-        points_some = f.1.1.1.0.low;
-        points_few = omega (arith, f.1.1.1.0.below);
-        cells_few = omega (arith, f.1.1.1.1.0.below);
-      },
+      grind (arith, f.0.low, f.0.below, f.1.0.low, f.1.0.below, f.1.1.0.below, f.1.1.1.0.low, f.1.1.1.0.below, f.1.1.1.1.0.below),
     )
 
 -- irq
@@ -110,14 +101,7 @@ stack_only words says e =
       record { lo = lo; hi = hi; main = p.1.1.0; handler = p.1.1.1.0 },
       r.1,
       r.2,
-      λ h. record {
-        low = f.0.low;
-        order = omega arith;
-        high = omega arith;
-        main = omega (arith, main.0);
-        handler = omega (arith, handler.0);
-        room = omega (arith, order, main.1, handler.1);
-      },
+      λ h. grind (arith, f.0.low, order, high, main.0, handler.0, main.1, handler.1),
     )
 
 -- cell
@@ -149,14 +133,7 @@ owner_read (suc zero) e = refl
 owner_read (suc (suc n)) e = absurd cc
 
 off_stack_so : (lo hi least n : ℕ) → 256 ≤ n → n ≤ 4351 → ((n < lo) ⊎ (hi < n)) → least ≤ n → IsWithin (off_stack lo hi least) n
-off_stack_so lo hi least n a b d l =
-    record {
-      low = a;
-      below = omega arith;
-      outside = elim d [ inl h ↦ inl h | inr h ↦ inr (omega arith) ];
-      least = l;
-      other = apart n (omega arith);
-    }
+off_stack_so lo hi least n a b d l = grind arith
 
 pub cell_sound : (lo hi least : ℕ) → IsReadable (cell_form lo hi least)
 cell_sound lo hi least = (lit≤ tt, λ at i o. (lit≤ tt, λ low j. (lit≤ tt, λ high k. tt)))

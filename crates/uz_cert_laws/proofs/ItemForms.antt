@@ -1,22 +1,22 @@
 -- What it takes that an item is taken: its word is spelled as one of seven forms, and it sets one thing.
-use Rattle.uz_cert_laws.proofs.Common.{◌≡◌, ℕ, zero, suc, ◌+◌, ◌<◌, ◌≤◌, ◌≢◌, ◌^◌, Bool, true, false, cond, not, ◌||◌, eqb, leb, ltb}
-use Rattle.uz_cert_laws.proofs.Common.{List, [], ◌∷◌, ◌++◌, length, decimal, codes, lit<, lit≤, refl, ◌∙◌, ap, arith, Some, Ok, Err}
-use Rattle.uz_cert_laws.proofs.Common.{is_numeral, number_below, cut_again, number_again, Lacks, lacks_cons, tracks, is_default_flag}
+use Rattle.uz_cert_laws.proofs.Common.{nat_tests, ◌≡◌, ℕ, zero, suc, ◌+◌, ◌<◌, ◌≤◌, ◌≢◌, ◌^◌, Bool, true, false, cond, not, ◌||◌, eqb}
+use Rattle.uz_cert_laws.proofs.Common.{leb, ltb, List, [], ◌∷◌, ◌++◌, length, decimal, codes, lit<, lit≤, refl, ◌∙◌, ap, arith, Some, Ok}
+use Rattle.uz_cert_laws.proofs.Common.{Err, is_numeral, number_below, cut_again, number_again, Lacks, lacks_cons, tracks, is_default_flag}
 use Rattle.uz_cert_laws.proofs.Common.{Cell, Fact, PairFact, Bit, ◌>>=◌, digits, raw_of, fact_of, pair_of, bit_of, is_default}
 use Rattle.uz_cert_laws.proofs.Common.{is_any_pair, is_range, is_handler, bytes_forms, pair_forms, is_flag_z, take_item, Shape, Facts}
 use Rattle.uz_cert_laws.proofs.Common.{item, fact_word, pair_word, flag_word, sym, subst, Option, None, Result, slice_get, slice_set}
-use Rattle.uz_cert_laws.proofs.Common.{PairFits, BitFits, All-head, All-tail, cut_at, cut_read, number_read, tracked_before, named_items, named_place}
-use Rattle.uz_cert_laws.proofs.Common.{successors_place, NamedValues, named_of, with_named, FactForms, Raw, CertWhy, All}
+use Rattle.uz_cert_laws.proofs.Common.{PairFits, BitFits, All-head, All-tail, cut_at, cut_read, number_read, tracked_before, named_items}
+use Rattle.uz_cert_laws.proofs.Common.{named_place, successors_place, NamedValues, named_of, with_named, FactForms, Raw, CertWhy, All}
 use Rattle.uz_cert_lines.specs.Items.{register_set, register_key, take_register, pair_set, take_pair, flag_set, take_flag, slot_set}
 use Rattle.uz_cert_lines.specs.Items.{slot_room, take_slot, with_number, cell_at, cell_forms, numbered, cell_set, cell_value, take_cell}
 use Rattle.uz_cert_lines.specs.Items.{successor_set, take_successor, take_letter, take_cut, take_second, take_named, take_named_value}
 use Rattle.uz_cert_lines.specs.Items.{take_keyed}
-use Rattle.uz_hex.proofs.Plain.{decimal_lacks_above}
-use Rattle.uz_cert_laws.proofs.Tests.{fine, some_not, not_number, so, else_so, then, is_le, is_lt, tested, or_false, fine_is, fault_not, passed}
-use Rattle.uz_cert_laws.proofs.Tests.{failed, bind_ok, le_is, lt_is, number_is}
+use Rattle.uz_cert_laws.proofs.Tests.{fine, some_not, not_number, so, else_so, then, is_le, is_lt, tested, or_false, fine_is, fault_not}
+use Rattle.uz_cert_laws.proofs.Tests.{passed, failed, bind_ok, le_is, lt_is, number_is}
 use Rattle.uz_cert_laws.proofs.Named.{order_so, is_name, IsName, letters, order_is, SetsOne, listed_taken, listed_takes}
-use Rattle.uz_cert_laws.proofs.Numbers.{lacks_is, digits_so, numeral_so}
 use Rattle.uz_cert_laws.proofs.Facts.{fact_so, pair_so, bit_so, FactIn, fact_only, pair_only, bit_only}
+use Rattle.uz_hex.proofs.Plain.{decimal_lacks_above}
+use Rattle.uz_cert_laws.proofs.Numbers.{lacks_is, digits_so, numeral_so}
 use Rattle.std.specs.Prelude.{slice_index}
 use Rattle.uz_cert_lines.specs.declared.why.CertWhy.TheVariants as why
 
@@ -131,13 +131,7 @@ cell_range (x ∷ xs) (suc i) c h e = cell_range xs i c (All-tail (λ y. y.range
 -- the numbers in a cell's word are those of bytes
 cell_limit : (shape : Shape) (cells : List Cell) (i : ℕ) (c : Cell) → CellsAreBytes cells → slice_get cells i ≡ Some c
     → (cell_form shape c).limit ≤ 256
-cell_limit shape cells i c h e = by_plain shape.plain (cell_range cells i c h e)
-  where
-    by_plain : (t : Bool) → c.range.hi ≤ 255
-        → (cond {A = FactForms} t (record { low = c.range.lo; limit = c.range.hi + 1; top = 255; sloped = false; old = false })
-        (record { low = 0; limit = 256; top = 255; sloped = true; old = false })).limit ≤ 256
-    by_plain true h = omega arith
-    by_plain false h = lit≤ tt
+cell_limit shape cells i c h e = grind (arith, cell_range cells i c h e)
 
 numbered_is : (t : Bool) (m : Result Raw CertWhy) (r : Raw) → numbered t m ≡ Ok r → (t ≡ true) × (m ≡ Ok r)
 numbered_is true m r e = (refl, e)
@@ -396,11 +390,7 @@ module _ (shape : Shape) (cells : List Cell) (facts : Facts) (later : List (List
       ap (λ v. take_item shape cells facts v later) t.word
       ∙ ap (λ o. take_cut shape cells facts o later)
       (cut_again 61 (114 ∷ decimal r) (fact_word f) (key_lacks 114 r (λ e. omega (arith, e)) (omega (arith, there))))
-      ∙ ap (register_key shape facts (fact_word f)) (number_again 32 r (lit≤ tt) there)
-      ∙ then (raw_of (bytes_forms shape) (fact_word f)) (λ raw. fact_of raw >>= (λ fact. register_set shape facts r fact)) fact.0
-      (Ok (with_register facts r f)) fact.1
-      (then (fact_of fact.0) (λ fact. register_set shape facts r fact) f (Ok (with_register facts r f)) fact.2
-      (order_so facts r (is_default shape.kind r f) (with_register facts r f) t.order t.other))
+      ∙ grind (arith, nat_tests, number_again 32 r (lit≤ tt) there, fact.1, fact.2, t.order, t.other)
 
   -- by the letter
 
@@ -418,12 +408,7 @@ module _ (shape : Shape) (cells : List Cell) (facts : Facts) (later : List (List
   pair_takes w k f t =
       let fact = pair_so f t.fits in
       ap (λ v. take_item shape cells facts v later) t.word ∙ pair_letter_takes (pair_word f) k t.there t.meant
-      ∙ else_so shape.plain (Err why.Word) (raw_of pair_forms (pair_word f) >>= (λ raw. pair_of raw >>= (λ fact. pair_set facts k fact)))
-      t.whole
-      ∙ then (raw_of pair_forms (pair_word f)) (λ raw. pair_of raw >>= (λ fact. pair_set facts k fact)) fact.0
-      (Ok (with_pair facts k f)) fact.1
-      (then (pair_of fact.0) (λ fact. pair_set facts k fact) f (Ok (with_pair facts k f)) fact.2
-      (order_so facts (32 + k) (is_any_pair f) (with_pair facts k f) t.order t.other))
+      ∙ grind (arith, nat_tests, t.whole, fact.1, fact.2, t.order, t.other)
 
   flag_letter_takes : (value : List ℕ) (b : ℕ) → b < 7 → (b ≡ 1 → is_flag_z shape facts value later ≡ true)
       → take_item shape cells facts (item (flag_letter b ∷ []) value) later ≡ take_flag shape facts b value
@@ -442,22 +427,14 @@ module _ (shape : Shape) (cells : List Cell) (facts : Facts) (later : List (List
   unfolding take_flag
   flag_takes w b bit t =
       ap (λ v. take_item shape cells facts v later) t.word ∙ flag_letter_takes (flag_word bit) b t.there t.meant
-      ∙ then (bit_of (is_handler shape.kind) (flag_word bit)) (λ bit. flag_set shape facts b bit) bit (Ok (with_flag facts b bit))
-      (bit_so shape.kind bit t.fits)
-      (order_so facts (35 + b) (is_default_flag shape.kind bit) (with_flag facts b bit) t.order t.other)
+      ∙ grind (arith, nat_tests, bit_so shape.kind bit t.fits, t.order, t.other)
 
   slot_takes : (w : List ℕ) (f : Fact) → SlotForm shape facts w f → Takes w (with_slot facts f)
   unfolding take_item take_slot
   slot_takes w f t =
       let fact = fact_so (bytes_forms shape) f (lit≤ tt) t.fits in
       ap (λ v. take_item shape cells facts v later) t.word
-      ∙ then (raw_of (bytes_forms shape) (fact_word f))
-      (λ raw. slot_room shape facts >>= (λ room. fact_of raw >>= (λ fact. slot_set facts fact))) fact.0
-      (Ok (with_slot facts f)) fact.1
-      (then (slot_room shape facts) (λ room. fact_of fact.0 >>= (λ fact. slot_set facts fact)) 0 (Ok (with_slot facts f))
-      (so (ltb (length facts.stack.items) shape.depth) (Ok 0) (Err why.Limit) (is_lt (length facts.stack.items) shape.depth t.room))
-      (then (fact_of fact.0) (λ fact. slot_set facts fact) f (Ok (with_slot facts f)) fact.2
-      (order_so facts 42 false (with_slot facts f) t.order refl)))
+      ∙ grind (arith, nat_tests, fact.1, fact.2, t.room, t.order)
 
   cell_takes : (w : List ℕ) (i : ℕ) (c : Cell) (f : Fact) → PlacesFit shape cells → CellForm shape cells facts w i c f
       → Takes w (with_cell shape cells facts i f)
@@ -472,18 +449,18 @@ module _ (shape : Shape) (cells : List Cell) (facts : Facts) (later : List (List
       ap (λ v. take_item shape cells facts v later) t.word
       ∙ ap (λ o. take_cut shape cells facts o later)
       (cut_again 61 (109 ∷ decimal i) (fact_word f) (key_lacks 109 i (λ e. omega (arith, e)) (omega (arith, few, below))))
-      ∙ so (digits (decimal i))
-      (numbered (is_numeral (decimal i)) (raw_of (cell_forms shape (cell_at cells number)) (fact_word f))
-      >>= (λ raw. cell_value shape cells facts (cell_at cells number) raw))
-      (Err why.Word) (digits_so i (omega (arith, few, below)))
-      ∙ ap (λ o. numbered (is_numeral (decimal i)) (raw_of (cell_forms shape o) (fact_word f)) >>= (λ raw. cell_value shape cells facts o raw)) at
-      ∙ ap (λ b. numbered b (raw_of (cell_form shape c) (fact_word f)) >>= (λ raw. cell_value shape cells facts (Some (i, c)) raw))
-      (numeral_so i (omega (arith, few, below)))
-      ∙ then (raw_of (cell_form shape c) (fact_word f)) (λ raw. cell_value shape cells facts (Some (i, c)) raw) fact.0
-      (Ok (with_cell shape cells facts i f)) fact.1
-      (so (tracks shape.kind c.owner) (fact_of fact.0 >>= (λ fact. cell_set shape cells facts i c.range fact)) (Err why.Unknown) t.own
-      ∙ then (fact_of fact.0) (λ fact. cell_set shape cells facts i c.range fact) f (Ok (with_cell shape cells facts i f)) fact.2
-      (order_so facts (43 + i) (is_range c.range f) (with_cell shape cells facts i f) t.order t.other))
+      ∙ grind (
+        arith,
+        nat_tests,
+        digits_so i (omega (arith, few, below)),
+        numeral_so i (omega (arith, few, below)),
+        at,
+        fact.1,
+        fact.2,
+        t.own,
+        t.order,
+        t.other,
+      )
 
   -- by the name
   name_takes : (key value : List ℕ) → is_name key ≡ true
@@ -492,26 +469,16 @@ module _ (shape : Shape) (cells : List Cell) (facts : Facts) (later : List (List
   name_takes [] value e = absurd cc
   name_takes (c ∷ []) value e = absurd cc
   name_takes (c ∷ d ∷ cs) value e =
-      else_so (eqb c 62) (take_successor shape facts (d ∷ rest))
-      (cond (eqb c 115) (take_second shape cells facts (c ∷ d ∷ rest) (d ∷ rest) later) (take_named shape cells facts (c ∷ d ∷ rest) later))
-      is.no_successor
-      ∙ by_second (eqb c 115)
-      ∙ ap (λ o. take_cut shape cells facts o later) (cut_again 61 (c ∷ d ∷ cs) value (lacks_is 61 (c ∷ d ∷ cs) is.lack))
-      ∙ else_so (eqb c 114) (take_register shape facts (d ∷ cs) value) _ is.no_register
-      ∙ else_so (eqb c 109) (take_cell shape cells facts (d ∷ cs) value) _ is.no_cell
-      ∙ else_so (eqb (length (d ∷ cs)) 0) (take_letter shape facts c value later) (take_named_value shape facts (c ∷ d ∷ cs) value)
-      (not_number (length (d ∷ cs)) 0 (some_not (length cs)))
-    where
-      rest : List ℕ
-      rest = cs ++ 61 ∷ value
-
-      is : IsName c d cs
-      is = letters c d cs e
-
-      by_second : (t : Bool) → cond t (cond (eqb d 58) (take_slot shape facts rest) (take_named shape cells facts (c ∷ d ∷ rest) later))
-          (take_named shape cells facts (c ∷ d ∷ rest) later) ≡ take_named shape cells facts (c ∷ d ∷ rest) later
-      by_second true = else_so (eqb d 58) (take_slot shape facts rest) (take_named shape cells facts (c ∷ d ∷ rest) later) is.no_slot
-      by_second false = refl
+      let is = letters c d cs e in
+      grind (
+        arith,
+        nat_tests,
+        is.no_successor,
+        is.no_slot,
+        is.no_register,
+        is.no_cell,
+        cut_again 61 (c ∷ d ∷ cs) value (lacks_is 61 (c ∷ d ∷ cs) is.lack),
+      )
 
   successor_takes : (w : List ℕ) (id : ℕ) → PlacesFit shape cells → SuccessorForm shape facts w id → Takes w (with_successor facts id)
   unfolding take_item take_successor
@@ -521,12 +488,16 @@ module _ (shape : Shape) (cells : List Cell) (facts : Facts) (later : List (List
       let next = successor_set facts (number_below shape.points (decimal id)) in
       let room_or = cond (ltb (length facts.next.items) 16) next (Err why.Limit) in
       ap (λ v. take_item shape cells facts v later) t.word
-      ∙ else_so (shape.plain || not (digits (decimal id))) (Err why.Word) (cond (not (is_numeral (decimal id))) (Err why.Number) room_or)
-      (ap (λ b. b || not (digits (decimal id))) t.whole ∙ ap not (digits_so id (omega (arith, points, there))))
-      ∙ else_so (not (is_numeral (decimal id))) (Err why.Number) room_or (ap not (numeral_so id (omega (arith, points, there))))
-      ∙ so (ltb (length facts.next.items) 16) next (Err why.Limit) (is_lt (length facts.next.items) 16 t.room)
-      ∙ ap (successor_set facts) (number_again shape.points id points there)
-      ∙ so (leb facts.after id) (Ok (with_successor facts id)) (Err why.Order) (is_le facts.after id t.order)
+      ∙ grind (
+        arith,
+        nat_tests,
+        t.whole,
+        t.room,
+        t.order,
+        digits_so id (omega (arith, points, there)),
+        numeral_so id (omega (arith, points, there)),
+        number_again shape.points id points there,
+      )
 
 -- each of these forms is taken
 pub form_takes : (shape : Shape) (cells : List Cell) (facts : Facts) (w : List ℕ) (later : List (List ℕ)) (more : Facts)

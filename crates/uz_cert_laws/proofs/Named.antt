@@ -43,9 +43,7 @@ pub small : (limit usual : ℕ) (may : ℕ → Bool) → is_sound (a_number limi
 small limit usual may s = le_is limit (2 ^ 32) (and_true (leb limit (2 ^ 32)) (may usual && ltb usual limit) s).0
 
 usual_fits : (form : ValueForm) → is_sound form ≡ true → ValueFits form (usual_of form)
-usual_fits (a_number limit may usual) s =
-    let two = and_true (may usual) (ltb usual limit) (and_true (leb limit (2 ^ 32)) (may usual && ltb usual limit) s).1 in
-    (two.0, lt_is usual limit two.1)
+usual_fits (a_number limit may usual) s = grind (arith, nat_tests)
 usual_fits a_range s = record { order = lit≤ tt; high = lit≤ tt }
 usual_fits a_comparison s = tt
 usual_fits a_register s = tt
@@ -109,20 +107,7 @@ pub record IsName (c d : ℕ) (cs : List ℕ) : Type 0 where
   pub no_cell : eqb c 109 ≡ false
 
 pub letters : (c d : ℕ) (cs : List ℕ) → is_name (c ∷ d ∷ cs) ≡ true → IsName c d cs
-letters c d cs e =
-    let all = and_true (lacks 61 (c ∷ d ∷ cs) && plain (c ∷ d ∷ cs)) _ e in
-    let text = and_true (lacks 61 (c ∷ d ∷ cs)) (plain (c ∷ d ∷ cs)) all.0 in
-    let marks = and_true (not (eqb c 62) && not (eqb d 58)) (not (eqb c 114) && not (eqb c 109)) all.1 in
-    let first = and_true (not (eqb c 62)) (not (eqb d 58)) marks.0 in
-    let second = and_true (not (eqb c 114)) (not (eqb c 109)) marks.1 in
-    record {
-      lack = text.0;
-      text = text.1;
-      no_successor = not_true (eqb c 62) first.0;
-      no_slot = not_true (eqb d 58) first.1;
-      no_register = not_true (eqb c 114) second.0;
-      no_cell = not_true (eqb c 109) second.1;
-    }
+letters c d cs e = grind (arith, nat_tests)
 
 pub name_plain : (key : List ℕ) → is_name key ≡ true → plain key ≡ true
 name_plain [] e = absurd cc
@@ -132,13 +117,7 @@ name_plain (c ∷ d ∷ cs) e = (letters c d cs e).text
 name_other : (key value : List ℕ) → is_name key ≡ true → names_c_or_z (item key value) ≡ false
 name_other [] value e = absurd cc
 name_other (c ∷ []) value e = absurd cc
-name_other (c ∷ d ∷ cs) value e =
-    let two = and_true (not (eqb c 61)) (lacks 61 (d ∷ cs)) (letters c d cs e).lack in
-    no_and (eqb c 99 || eqb c 122) (eqb d 61) (not_true (eqb d 61) (and_true (not (eqb d 61)) (lacks 61 cs) two.1).0)
-  where
-    no_and : (a b : Bool) → b ≡ false → (a && b) ≡ false
-    no_and true b e = e
-    no_and false b e = refl
+name_other (c ∷ d ∷ cs) value e = grind (arith, nat_tests)
 
 -- tables
 
@@ -337,10 +316,7 @@ value_takes : (i : NamedItem) (shape : Shape) (facts : Facts) (place : ℕ) (put
     → take_value i shape facts place put (value_word i.form x) ≡ Ok (put x (place + 1))
 unfolding take_value
 value_takes i shape facts place put w x s t =
-    so (i.stands shape) (value_read i.form (value_word i.form x) >>= (λ y. value_set i facts place put y)) (Err why.Word) t.stands
-    ∙ then (value_read i.form (value_word i.form x)) (λ y. value_set i facts place put y) x (Ok (put x (place + 1)))
-    (value_so i.form x s t.fits t.other)
-    (order_so facts place (is_usual i.form x) (put x (place + 1)) t.order t.other)
+    grind (arith, nat_tests, t.stands, value_so i.form x s t.fits t.other, t.order, t.other)
 
 -- a word that sets one of these values is an item of a name in the table, and is taken
 pub record ListedTakes (is : List NamedItem) (place : ℕ) (shape : Shape) (facts : Facts) (v : NamedValues is)

@@ -67,10 +67,7 @@ digits_lack_below c [] h e = lacks_nil c
 digits_lack_below c (b ∷ bs) h e =
     let head = and_true (leb 48 b && leb b 57) (all_digits bs) e in
     let digit = and_true (leb 48 b) (leb b 57) head.0 in
-    lacks_cons c b bs (above c b h (le_is 48 b digit.0)) (digits_lack_below c bs h head.1)
-  where
-    above : (c b : ℕ) → c < 48 → 48 ≤ b → b ≢ c
-    above c b h k e = omega arith
+    lacks_cons c b bs (grind (arith, nat_tests, digit)) (digits_lack_below c bs h head.1)
 
 pub decimal_lacks_below : (c n : ℕ) → c < 48 → n < 2 ^ 64 → Lacks c (decimal n)
 decimal_lacks_below c n h k = digits_lack_below c (decimal n) h (digits_of_decimal n k)
@@ -187,10 +184,7 @@ one_only low limit n w h e =
 
 pub one_so : (low limit n : ℕ) → limit ≤ 2 ^ 32 → low ≤ n → n < limit → one_number low limit (decimal n) ≡ Ok n
 unfolding one_number
-one_so low limit n h l b =
-    so (digits (decimal n)) (one_or (is_numeral (decimal n)) (number_within low limit (decimal n))) (Err why.Word)
-    (digits_so n (omega arith))
-    ∙ ap (one_or (is_numeral (decimal n))) (within_again low limit n h l b)
+one_so low limit n h l b = grind (arith, nat_tests, digits_so n (omega arith), within_again low limit n h l b)
 
 both_some : (a b : Option ℕ) (p : ℕ × ℕ) → both a b ≡ Ok p → (a ≡ Some p.0) × (b ≡ Some p.1)
 both_some None b p e = absurd cc
@@ -214,16 +208,16 @@ pub two_so : (la lb limit a b : ℕ) → limit ≤ 2 ^ 32 → la ≤ a → a < l
     → two_numbers la lb limit (decimal a) (decimal b) ≡ Ok (a, b)
 unfolding two_numbers
 two_so la lb limit a b h ha ka hb kb =
-    so (digits (decimal a) && digits (decimal b))
-    (cond (is_numeral (decimal a) && is_numeral (decimal b))
-    (both (number_within la limit (decimal a)) (number_within lb limit (decimal b))) (Err why.Number))
-    (Err why.Word)
-    (both_true (digits (decimal a)) (digits (decimal b)) (digits_so a (omega arith)) (digits_so b (omega arith)))
-    ∙ so (is_numeral (decimal a) && is_numeral (decimal b)) (both (number_within la limit (decimal a)) (number_within lb limit (decimal b)))
-    (Err why.Number)
-    (both_true (is_numeral (decimal a)) (is_numeral (decimal b)) (numeral_so a (omega arith)) (numeral_so b (omega arith)))
-    ∙ ap (λ o. both o (number_within lb limit (decimal b))) (within_again la limit a h ha ka)
-    ∙ ap (both (Some a)) (within_again lb limit b h hb kb)
+    grind (
+      arith,
+      nat_tests,
+      digits_so a (omega arith),
+      digits_so b (omega arith),
+      numeral_so a (omega arith),
+      numeral_so b (omega arith),
+      within_again la limit a h ha ka,
+      within_again lb limit b h hb kb,
+    )
 
 abbrev pub words_in : List (List ℕ) → Bool → Words
 words_in list ended = record { list = list; ended = ended }
@@ -278,8 +272,7 @@ pub apart : (n : ℕ) → n < 2 ^ 31 → n ≢ 4294967295
 apart n h e = omega arith
 
 pub is_within : (low limit n : ℕ) → limit ≤ 2 ^ 31 → low ≤ n → n < limit → IsWithin (within low limit) n
-is_within low limit n l a b =
-    record { low = a; below = b; outside = inr (omega arith); least = omega arith; other = apart n (omega arith) }
+is_within low limit n l a b = grind arith
 
 pub under_both : (a b n : ℕ) → n < a → n < b → n < least_of a b
 under_both a b n h k = grind (arith, nat_tests)
@@ -291,12 +284,10 @@ pub least_small : (a b : ℕ) → a ≤ 2 ^ 31 → least_of a b ≤ 2 ^ 31
 least_small a b h = grind (arith, nat_tests)
 
 pub one_of_so : (count n : ℕ) → count ≤ 2 ^ 31 → n < count → IsWithin (one_of count) n
-one_of_so count n h b =
-    record { low = omega arith; below = b; outside = inr (omega arith); least = omega arith; other = apart n (omega arith) }
+one_of_so count n h b = grind arith
 
 pub rising_so : (least limit n : ℕ) → limit ≤ 2 ^ 31 → least ≤ n → n < limit → IsWithin (rising least (within 0 limit)) n
-rising_so least limit n h l b =
-    record { low = omega arith; below = b; outside = inr (omega arith); least = l; other = apart n (omega arith) }
+rising_so least limit n h l b = grind arith
 
 pub other_so : (kinds before n : ℕ) → n < kinds → n ≢ before → IsWithin (record (one_of kinds) { other = before }) n
 other_so kinds before n b o = record { low = omega arith; below = b; outside = inr (omega arith); least = omega arith; other = o }

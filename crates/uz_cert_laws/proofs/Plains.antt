@@ -1,20 +1,20 @@
 -- The words of spelled lines: each byte is above the space, so that a line is cut into its words again, and has no line end.
-use Rattle.uz_cert_laws.proofs.Common.{◌≡◌, ℕ, ◌<◌, Bool, true, false, cond, eqb, List, [], ◌∷◌, length, refl, ◌∙◌, ap, arith, All-head}
-use Rattle.uz_cert_laws.proofs.Common.{All-tail, Lacks, All, zero, suc, ◌+◌, ◌/◌, ◌&&◌, ltb, ◌++◌, map, codes, decimal, lit≤, sym, subst}
-use Rattle.uz_cert_laws.proofs.Common.{plain, Ends, is_default_flag, Kind, Fact, PairFact, Bit, Cell, is_default, is_any_pair, range_word}
-use Rattle.uz_cert_laws.proofs.Common.{ends_word, slope_word, fact_word, pair_word, flag_word, item, unless, register_items}
+use Rattle.uz_cert_laws.proofs.Common.{nat_tests, ◌≡◌, ℕ, ◌<◌, Bool, true, false, cond, eqb, List, [], ◌∷◌, length, refl, ◌∙◌, ap, arith}
+use Rattle.uz_cert_laws.proofs.Common.{All-head, All-tail, Lacks, All, zero, suc, ◌+◌, ◌/◌, ◌&&◌, ltb, ◌++◌, map, codes, decimal, lit≤}
+use Rattle.uz_cert_laws.proofs.Common.{sym, subst, plain, Ends, is_default_flag, Kind, Fact, PairFact, Bit, Cell, is_default, is_any_pair}
+use Rattle.uz_cert_laws.proofs.Common.{range_word, ends_word, slope_word, fact_word, pair_word, flag_word, item, unless, register_items}
 use Rattle.uz_cert_laws.proofs.Common.{register_item, pair_items, flag_items, slot_items, cell_items, successor_items, two_word}
 use Rattle.uz_cert_laws.proofs.Common.{three_word, four_word, comparison_word, Some, None, value_word, value_item, value_items, ValueForm}
 use Rattle.uz_cert_laws.proofs.Common.{a_number, a_range, a_comparison, a_register, ValueOf, is_usual, NamedItem, named_items}
 use Rattle.uz_cert_laws.proofs.Common.{NamedValues, listed_items, numbers_from, options, signed_word, Register, Constant, Compared}
+use Rattle.uz_hex.proofs.Plain.{EachLacks, split_join, EachPlain, each_plain_append, each_lacks, join_lacks, plain_append}
 use Rattle.uz_cert_lines.specs.Grammar.{words_of, with_byte, cut_words}
 use Rattle.uz_cert_writer.specs.Spelling.{line_of}
-use Rattle.std.specs.List.{slice_split, onto_first, join_with_byte}
-use Rattle.uz_hex.proofs.Plain.{EachLacks, split_join, EachPlain, each_plain_append, each_lacks, join_lacks, plain_append}
-use Rattle.uz_cert_laws.proofs.Spelled.{numbered_cells, cells_are, in_range, cell_word}
-use Rattle.std.specs.{Prelude.ℤ, Prelude.pos, Prelude.negsuc, Fmt.digits, Fmt.digits_onto, Fmt.digit_glyph}
+use Rattle.std.specs.{List.slice_split, List.onto_first, List.join_with_byte, Prelude.ℤ, Prelude.pos, Prelude.negsuc, Fmt.digits}
+use Rattle.std.specs.{Fmt.digits_onto, Fmt.digit_glyph}
+use Rattle.uz_cert_laws.proofs.{Spelled.numbered_cells, Spelled.cells_are, Spelled.in_range, Spelled.cell_word, Tests.and_true}
+use Rattle.uz_cert_laws.proofs.{Tests.both_true, Tests.is_lt, Named.name_plain, Named.is_table, Named.table}
 use Rattle.std.proofs.{Common.◌%◌, lemmas.List.Splits.join_with_byte-slice_split}
-use Rattle.uz_cert_laws.proofs.{Tests.and_true, Tests.both_true, Tests.is_lt, Named.name_plain, Named.is_table, Named.table}
 use Rattle.uz_schedule.specs.declared.facts.Compared.TheVariants as told
 use Rattle.uz_schedule.specs.declared.facts.Fact.TheVariants as fact
 use Rattle.uz_schedule.specs.declared.facts.PairFact.TheVariants as pair
@@ -76,11 +76,7 @@ either true x y h k = h
 either false x y h k = k
 
 plain_glyph : (d : ℕ) → ltb 32 (digit_glyph false d) ≡ true
-plain_glyph d = by (ltb d 10)
-  where
-    by : (t : Bool) → ltb 32 (cond t (48 + d) (87 + d)) ≡ true
-    by true = is_lt 32 (48 + d) (omega arith)
-    by false = is_lt 32 (87 + d) (omega arith)
+plain_glyph d = grind (arith, nat_tests)
 
 plain_digits : (k n : ℕ) (acc : List ℕ) → plain acc ≡ true → plain (digits_onto k 10 false n acc) ≡ true
 plain_digits zero n acc h = h

@@ -179,12 +179,7 @@ pending_small Alone = lit≤ tt
 point_shape_fits : (version : Version) (h : Head) (lines points : ℕ) (kind : Kind) → PlacesAre h lines points
     → ShapeFits (point_shape version h kind points) h.cells.items
 point_shape_fits version h lines points kind a =
-    let s = shape_fits h lines points kind false a (λ _. refl) in
-    record {
-      places = record { few = s.places.few; bytes = s.places.bytes; points = s.places.points };
-      whole = s.whole;
-      ranges = s.ranges;
-    }
+    shape_fits h lines points (point_shape version h kind points) a refl (λ _. refl)
 
 point_says : (version : Version) (h : Head) (points : ℕ) (at : PointPlace)
     → SaysFacts (λ f. parsed.Point (point_of at f))
@@ -289,8 +284,7 @@ pending_two Handler = lit≤ tt
 pending_two Alone = lit≤ tt
 
 none_waits : (n : ℕ) → n < 1 → eqb n 1 ≡ false
-none_waits zero h = refl
-none_waits (suc n) h = absurd (omega arith)
+none_waits n h = grind (arith, nat_tests)
 
 -- a place, as a line says it: its box, and what is 0 in main
 record PlaceSaid (lines : ℕ) (at : PointPlace) : Type 0 where

@@ -44,9 +44,7 @@ first_bit Alone = tt
 form_in : (plain : Bool) (range : Ends) → RangeFits 255 range → (whole : Bool) → (eqb range.lo 0 && eqb range.hi 255) ≡ whole
     → FactIn (cond {A = FactForms} plain (record { low = range.lo; limit = range.hi + 1; top = 255; sloped = false; old = false })
     (record { low = 0; limit = 256; top = 255; sloped = true; old = false })) (cond whole Any (Between range))
-form_in true range h true e =
-    let two = and_true (eqb range.lo 0) (eqb range.hi 255) e in
-    (number_is range.lo 0 two.0, omega (arith, number_is range.hi 255 two.1))
+form_in true range h true e = grind (arith, nat_tests)
 form_in true range h false e = (part_from range h e, omega arith, omega arith)
 form_in false range h true e = (refl, lit< tt)
 form_in false range h false e = (part_from range h e, omega arith, omega (arith, h.high))
@@ -226,12 +224,7 @@ module _ (shape : Shape) (cells : List Cell) (f : Facts) (h : Regular shape cell
 
       by_flags : TellsFlags shape.kind f w more → IsMeant shape.kind f.flags ⊎ ((any_names (w ∷ ws) ≡ true) × (35 ≤ f.least))
           → IsMeant shape.kind more.flags ⊎ ((any_names ws ≡ true) × (35 ≤ more.least))
-      by_flags (inl o) (inl m) = inl (o.1 ∙ m)
-      by_flags (inl o) (inr m) = inr (sym (ap (λ b. b || any_names ws) o.0) ∙ m.0, omega (arith, m.1, rise))
-      by_flags (inr o) m = elim o.2 [
-        | inl set ↦ inl (set two)
-        | inr q ↦ elim m [ inl n ↦ inl (q.1 ∙ n) | inr n ↦ absurd (omega (arith, q.0, n.1)) ]
-      ]
+      by_flags t m = grind (arith, nat_tests, two, rise)
 
   abbrev pair_z : Facts → PairFact
   pair_z m = get_or m.pairs 2 AnyPair

@@ -22,15 +22,7 @@ abbrev told : ParsedLine → Result ParsedLine CertWhy
 told says = Ok says
 
 length_so : (events clocks : ℕ) → events ≤ clocks → is_length clocks ≡ true → IsWithin (length_for events) clocks
-length_so events clocks few is =
-    let most = length_few clocks is in
-    record {
-      low = least_length events clocks few is;
-      below = omega (arith, most);
-      outside = no_other_length clocks is;
-      least = omega arith;
-      other = apart clocks (omega (arith, most));
-    }
+length_so events clocks few is = grind (arith, length_few clocks is, least_length events clocks few is, no_other_length clocks is)
 
 pub kind_sound : (version : Version) → IsReadable (kind_form version)
 kind_sound First = (lit≤ tt, λ n i. tt)

@@ -1,12 +1,12 @@
 -- The items that facts are spelled as: registers, pairs, flags and cells as lists of optional items.
-use Rattle.uz_cert_laws.proofs.Common.{◌≡◌, ℕ, zero, suc, ◌+◌, ◌<◌, ◌≤◌, Bool, true, false, cond, ◌&&◌, eqb, List, [], ◌∷◌, map, length}
-use Rattle.uz_cert_laws.proofs.Common.{decimal, lit≤, refl, sym, ◌∙◌, ap, subst, add-one, arith, Option, Some, slice_get, Ends, tracks}
-use Rattle.uz_cert_laws.proofs.Common.{is_default_flag, Kind, Main, Handler, Alone, Cell, Fact, Any, Between, Line, Loop, Old, OldFlags}
-use Rattle.uz_cert_laws.proofs.Common.{PairFact, Bit, Zero, One, Free, is_default, is_any_pair, is_range, range_fact, default_flag}
-use Rattle.uz_cert_laws.proofs.Common.{tracked_before, Shape, options, numbers_from, item, unless, fact_word, register_item}
+use Rattle.uz_cert_laws.proofs.Common.{nat_tests, ◌≡◌, ℕ, zero, suc, ◌+◌, ◌<◌, ◌≤◌, Bool, true, false, cond, ◌&&◌, eqb, List, [], ◌∷◌}
+use Rattle.uz_cert_laws.proofs.Common.{map, length, decimal, lit≤, refl, sym, ◌∙◌, ap, subst, add-one, arith, Option, Some, slice_get}
+use Rattle.uz_cert_laws.proofs.Common.{Ends, tracks, is_default_flag, Kind, Main, Handler, Alone, Cell, Fact, Any, Between, Line, Loop}
+use Rattle.uz_cert_laws.proofs.Common.{Old, OldFlags, PairFact, Bit, Zero, One, Free, is_default, is_any_pair, is_range, range_fact}
+use Rattle.uz_cert_laws.proofs.Common.{default_flag, tracked_before, Shape, options, numbers_from, item, unless, fact_word, register_item}
 use Rattle.uz_cert_laws.proofs.Common.{register_items, cell_items, AnyPair, BetweenPair, LinePair, LoopPair, OldBit}
-use Rattle.uz_cert_lines.specs.Items.{own_regs, any_regs, default_regs, default_cells}
 use Rattle.uz_cert_laws.proofs.Tests.{and_true, both_true, number_is, same_number, so, else_so}
+use Rattle.uz_cert_lines.specs.Items.{own_regs, any_regs, default_regs, default_cells}
 use Rattle.uz_cert_laws.proofs.{ItemForms.cell_form, Facts.FactIn, Facts.part_not_whole}
 
 -- the keys: registers by number, pairs and flags by letter, cells by number
@@ -79,13 +79,7 @@ registers_usual Alone = refl
 
 pub cells_usual : (kind : Kind) (i : ℕ) (cs : List Cell) → default_cells kind cs ≡ map usual_cell (numbered_cells kind i cs)
 cells_usual kind i [] = refl
-cells_usual kind i (c ∷ cs) = by_own (tracks kind c.owner) (cells_usual kind (suc i) cs)
-  where
-    by_own : (t : Bool) → default_cells kind cs ≡ map usual_cell (numbered_cells kind (suc i) cs)
-        → cond t (range_fact c.range ∷ default_cells kind cs) (default_cells kind cs)
-        ≡ map usual_cell (cond t ((i, c) ∷ numbered_cells kind (suc i) cs) (numbered_cells kind (suc i) cs))
-    by_own true e = ap (λ fs. range_fact c.range ∷ fs) e
-    by_own false e = e
+cells_usual kind i (c ∷ cs) = grind (arith, cells_usual kind (suc i) cs)
 
 -- a default is left out, and nothing else that may stand there
 
@@ -137,17 +131,10 @@ flag_usual_only Handler OldBit e = refl
 flag_usual_only Alone OldBit e = absurd cc
 
 pub range_default : (range : Ends) → is_range range (range_fact range) ≡ true
-range_default range = by_whole (eqb range.lo 0 && eqb range.hi 255) refl
-  where
-    by_whole : (t : Bool) → (eqb range.lo 0 && eqb range.hi 255) ≡ t → is_range range (cond t Any (Between range)) ≡ true
-    by_whole true t = t
-    by_whole false t = both_true (eqb range.lo range.lo) (eqb range.hi range.hi) (same_number range.lo) (same_number range.hi)
+range_default range = grind (arith, nat_tests)
 
 ends_are_same : (a b : Ends) → a.lo ≡ b.lo → a.hi ≡ b.hi → a ≡ b
-ends_are_same a b e f = ends_eta (λ (lo : ℕ) (hi : ℕ). record { lo = lo; hi = hi }) e f
-  where
-    ends_eta : (make : ℕ → ℕ → Ends) → a.lo ≡ b.lo → a.hi ≡ b.hi → make a.lo a.hi ≡ make b.lo b.hi
-    ends_eta make e f = ap (λ n. make n a.hi) e ∙ ap (λ n. make b.lo n) f
+ends_are_same a b e f = λ i. record { lo = e i; hi = f i }
 
 pub range_only_usual : (shape : Shape) (c : Cell) (f : Fact) → FactIn (cell_form shape c) f → is_range c.range f ≡ true → f ≡ range_fact
     c.range
@@ -203,13 +190,7 @@ cells_before_next kind [] i c e t = absurd cc
 cells_before_next kind (x ∷ xs) zero c e t =
     let same : x ≡ c = cc in
     ap (λ b. cond b (0 + 1) 0) (ap (λ (y : Cell). tracks kind y.owner) same ∙ t)
-cells_before_next kind (x ∷ xs) (suc i) c e t = by_own (tracks kind x.owner) (cells_before_next kind xs i c e t)
-  where
-    by_own : (b : Bool) → tracked_before kind (suc i) xs ≡ suc (tracked_before kind i xs)
-        → cond b (tracked_before kind (suc i) xs + 1) (tracked_before kind (suc i) xs)
-        ≡ suc (cond b (tracked_before kind i xs + 1) (tracked_before kind i xs))
-    by_own true h = omega (arith, h)
-    by_own false h = h
+cells_before_next kind (x ∷ xs) (suc i) c e t = grind (arith, cells_before_next kind xs i c e t)
 
 pub cells_before_rise : (kind : Kind) (cs : List Cell) (i j : ℕ) → i ≤ j → tracked_before kind i cs ≤ tracked_before kind j cs
 cells_before_rise kind [] zero zero h = lit≤ tt
@@ -218,10 +199,4 @@ cells_before_rise kind [] (suc i) zero h = lit≤ tt
 cells_before_rise kind [] (suc i) (suc j) h = lit≤ tt
 cells_before_rise kind (x ∷ xs) zero j h = omega arith
 cells_before_rise kind (x ∷ xs) (suc i) zero h = absurd (omega arith)
-cells_before_rise kind (x ∷ xs) (suc i) (suc j) h = by_own (tracks kind x.owner) (cells_before_rise kind xs i j (omega arith))
-  where
-    by_own : (b : Bool) → tracked_before kind i xs ≤ tracked_before kind j xs
-        → cond b (tracked_before kind i xs + 1) (tracked_before kind i xs) ≤ cond b (tracked_before kind j xs + 1)
-        (tracked_before kind j xs)
-    by_own true h = omega arith
-    by_own false h = h
+cells_before_rise kind (x ∷ xs) (suc i) (suc j) h = grind (arith, cells_before_rise kind xs i j (omega arith))

@@ -45,25 +45,16 @@ get_middle (p ∷ pre) later x = get_middle pre later x
 count_push : (kind : Kind) (pre : List Cell) (x : Cell)
     → tracked_count kind (pre ++ x ∷ []) ≡ cond (tracks kind x.owner) (tracked_count kind pre + 1) (tracked_count kind pre)
 count_push kind [] x = refl
-count_push kind (p ∷ pre) x = by_own (tracks kind p.owner) (tracks kind x.owner) (count_push kind pre x)
-  where
-    by_own : (t u : Bool) → tracked_count kind (pre ++ x ∷ []) ≡ cond u (tracked_count kind pre + 1) (tracked_count kind pre)
-        → cond t (tracked_count kind (pre ++ x ∷ []) + 1) (tracked_count kind (pre ++ x ∷ []))
-        ≡ cond u (cond t (tracked_count kind pre + 1) (tracked_count kind pre) + 1)
-        (cond t (tracked_count kind pre + 1) (tracked_count kind pre))
-    by_own true true h = ap (λ n. n + 1) h
-    by_own true false h = ap (λ n. n + 1) h
-    by_own false true h = h
-    by_own false false h = h
+count_push kind (p ∷ pre) x = grind (arith, count_push kind pre x)
 
 -- the flag Z
 
 flag_z_so : (shape : Shape) (f : Facts) (x : Bit) (later : List (List ℕ)) → any_names later ≡ false → is_flag_z shape f (flag_word x)
     later ≡ true
 flag_z_so shape f Zero later e = grind (arith, nat_tests)
-flag_z_so shape f One later e = or_second (shape.plain || ltb 35 f.least) (not (any_names later)) (ap not e)
-flag_z_so shape f Free later e = or_second (shape.plain || ltb 35 f.least) true refl
-flag_z_so shape f OldBit later e = or_second (shape.plain || ltb 35 f.least) true refl
+flag_z_so shape f One later e = grind (arith, nat_tests)
+flag_z_so shape f Free later e = grind (arith, nat_tests)
+flag_z_so shape f OldBit later e = grind (arith, nat_tests)
 
 -- the pair Z
 
@@ -85,11 +76,13 @@ one_raw_word = ap (raw_of pair_forms) (sym (decimal_digit 1 (lit< tt))) ∙ one_
 not_flag_z : (shape : Shape) (f : Facts) (x : PairFact) (later : List (List ℕ)) → shape.plain ≡ false → f.least ≤ 34 → PairFits x
     → (is_zero_or_one x ≡ true → any_names later ≡ true) → is_flag_z shape f (pair_word x) later ≡ false
 not_flag_z shape f x later p l i z =
-    neither (shape.plain || ltb 35 f.least) _
-    (neither shape.plain (ltb 35 f.least) p (is_not_lt 35 f.least (omega arith)))
-    (neither (bytes_eq (pair_word x) (codes "?") || bytes_eq (pair_word x) (codes "o")) _
-    (neither (bytes_eq (pair_word x) (codes "?")) (bytes_eq (pair_word x) (codes "o")) (other (codes "?") no_mark) (other (codes "o") no_old))
-    (digit (bytes_eq (pair_word x) (codes "0")) (bytes_eq (pair_word x) (codes "1")) refl refl))
+    grind (
+      arith,
+      nat_tests,
+      other (codes "?") no_mark,
+      other (codes "o") no_old,
+      digit (bytes_eq (pair_word x) (codes "0")) (bytes_eq (pair_word x) (codes "1")) refl refl,
+    )
   where
     reads : (r : Raw) × (raw_of pair_forms (pair_word x) ≡ Ok r) × (pair_of r ≡ Ok x)
     reads = pair_so x i
@@ -157,13 +150,11 @@ module _ (shape : Shape) (cells : List Cell) (h : ShapeFits shape cells) (g : Fa
   }
     where
       by_past : 37 ≤ f.least → TellsFlags shape.kind f w more → any_names (w ∷ d.words) ≡ false
-      by_past l (inl o) = neither (names_c_or_z w) (any_names d.words) o.0 (d.past (omega (arith, l, rise)))
-      by_past l (inr o) = absurd (omega (arith, l, o.1))
+      by_past l t = grind (arith, nat_tests, d.past)
 
       by_set : any_names (w ∷ d.words) ≡ false → TellsFlags shape.kind f w more
           → is_carry_and_zero_default shape.kind f.flags ≡ is_carry_and_zero_default shape.kind g.flags
-      by_set none (inl o) = sym o.1 ∙ d.set (or_false (names_c_or_z w) (any_names d.words) none).1
-      by_set none (inr o) = absurd (true_not (names_c_or_z w) o.0 (or_false (names_c_or_z w) (any_names d.words) none).0)
+      by_set none t = grind (arith, nat_tests, d.set)
 
   at_facts : (f k : Facts) → f ≡ k → DoneFrom k → DoneFrom f
   at_facts f k e d = subst (λ (x : Facts). DoneFrom x) (sym e) d
@@ -378,8 +369,7 @@ module _ (shape : Shape) (cells : List Cell) (h : ShapeFits shape cells) (g : Fa
       -- where C or Z is said, a word for it comes
       names : (t : Bool) → (t ≡ false → is_carry_and_zero_default shape.kind (map (usual_bit shape.kind) letters_of_flags)
           ≡ is_carry_and_zero_default shape.kind g.flags) → IsMeant shape.kind g.flags → t ≡ true
-      names true set m = refl
-      names false set m = absurd (true_not (is_carry_and_zero_default shape.kind g.flags) (sym (set refl) ∙ none_said shape.kind) m)
+      names t set m = grind (arith, nat_tests, none_said shape.kind)
 
   pairs_said : (ps : List PairFact) → Each (λ c x. PairFits x) letters_of_pairs ps
       → (shape.plain ≡ true → ps ≡ map usual_pair letters_of_pairs)
