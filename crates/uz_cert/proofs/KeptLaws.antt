@@ -1,4 +1,5 @@
 -- Each line that is within limits where it is due keeps what is read so far within limits.
+use Rattle.std.proofs.lemmas.Bool.Decides.{nat_tests}
 use Rattle.uz_cert.proofs.Common.{◌≡◌, ◌⊎◌, inl, inr, ℕ, zero, suc, ◌+◌, ◌-◌, ◌<◌, ◌≤◌, Bool, true, false, ◌&&◌, eqb, ltb, List, [], ◌∷◌}
 use Rattle.uz_cert.proofs.Common.{◌++◌, length, map, replicate, All, refl, sym, ◌∙◌, ap, subst, arith, length-append, Option, Some, None}
 use Rattle.uz_cert.proofs.Common.{IfSome, sum_by, eqb-true, eqb-false, map-append, length-replicate, All-nil, All-weaker, clock_limit}
@@ -35,10 +36,8 @@ least_more f xs x = after_more 0 (map f xs) (f x) ∙ ap (least_after 0) (sym (m
 
 below_push : (events : List Event) (e : Event) (n : ℕ) → clocks_below events n ≡ true → e.clock < n
     → clocks_below (events ++ e ∷ []) n ≡ true
-below_push [] e n h l = both_true (ltb e.clock n) true (le-leb (suc e.clock) n l) refl
-below_push (x ∷ xs) e n h l =
-    let both = and_true (ltb x.clock n) (clocks_below xs n) h in
-    both_true (ltb x.clock n) (clocks_below (xs ++ e ∷ []) n) both.0 (below_push xs e n both.1 l)
+below_push [] e n h l = grind (arith, nat_tests)
+below_push (x ∷ xs) e n h l = grind (arith, nat_tests, below_push xs e n)
 
 lengths_push : (kinds : List (List Event)) (lengths : List ℕ) (events : List Event) (n : ℕ) → lengths_fit kinds lengths ≡ true
     → is_length n ≡ true → clocks_below events n ≡ true
@@ -48,9 +47,7 @@ lengths_push [] [] events n h l b =
 lengths_push [] (m ∷ lengths) events n h l b = absurd cc
 lengths_push (es ∷ kinds) [] events n h l b = absurd cc
 lengths_push (es ∷ kinds) (m ∷ lengths) events n h l b =
-    let both = and_true (is_length m && clocks_below es m) (lengths_fit kinds lengths) h in
-    both_true (is_length m && clocks_below es m) (lengths_fit (kinds ++ events ∷ []) (lengths ++ n ∷ [])) both.0
-    (lengths_push kinds lengths events n both.1 l b)
+    grind (arith, nat_tests, lengths_push kinds lengths events n)
 
 pub length_in : (version : Version) (n : ℕ) → IsLengthIn version n → is_length n ≡ true
 length_in First n h = subst (λ m. is_length m ≡ true) (sym h) refl
@@ -134,15 +131,7 @@ first_kept version =
       stack = grind arith;
       cells = record { few = omega arith; each = All-nil (CellFits d.head); rise = refl; least_is = refl };
       schedule = (
-        record {
-          few = omega arith;
-          each = All-nil EventFits;
-          below = refl;
-          own = scanline_in version;
-          rise = refl;
-          least_is = refl;
-          present = λ _. refl;
-        },
+        grind (arith, All-nil EventFits, scanline_in version),
         no_kinds version [] [] 1 0 refl refl refl,
         omega arith,
         record { few = omega arith; there = All-nil (λ kind. kind < 1) },
@@ -340,15 +329,7 @@ event_more d e k a f true is =
       event_least = 0;
     } in
     let more : Kept next = body_kept d next k a (
-      record {
-        few = omega (arith, one);
-        each = All-nil EventFits;
-        below = refl;
-        own = scanline_in d.version;
-        rise = refl;
-        least_is = refl;
-        present = λ _. refl;
-      },
+      grind (arith, one, All-nil EventFits, scanline_in d.version),
       record {
         few = simp length-append (omega (arith, kinds.owing f.owed));
         owing = λ some. absurd (omega (arith, some, one));

@@ -1,4 +1,5 @@
 -- A text is read as each well formed certificate: section by section, from the last line to the first.
+use Rattle.std.proofs.lemmas.Bool.Decides.{nat_tests}
 use Rattle.uz_cert.proofs.Common.{◌≡◌, ◌≢◌, ℕ, suc, ◌+◌, ◌-◌, ◌<◌, ◌≤◌, true, false, ◌&&◌, eqb, List, [], ◌∷◌, ◌++◌, length, map}
 use Rattle.uz_cert.proofs.Common.{replicate, All, ltb, zero-add, refl, sym, ◌∙◌, ap, subst, append_assoc, append-nil, arith}
 use Rattle.uz_cert.proofs.Common.{length-append, Some, None, Ok, ⊤, sum_by, length-replicate, All-head, All-tail, All-weaker, scanline}
@@ -61,13 +62,8 @@ points_again l d e (x ∷ xs) k b p o count fits own sum =
     let cells : d.sizes.cells ≡ length d.head.cells.items = p.0.0.0.0.0 in
     let room : length d.points < d.sizes.points = omega (arith, count) in
     let split = sum_by-cons instances_of x xs in
-    let fit : SaidFits d (parsed.Point x) = record {
-      after = record { body = b; cells = omega (arith, cells) };
-      room = room;
-      fits = All-head (PointFits d.head d.sizes.lines d.sizes.points) x xs fits;
-      own = All-head (IsPointIn d.version) x xs own;
-      instances = omega (arith, sum, split);
-    } in
+    let fit : SaidFits d (parsed.Point x) = grind (arith, b, cells, room, sum, split,
+    All-head (PointFits d.head d.sizes.lines d.sizes.points) x xs fits, All-head (IsPointIn d.version) x xs own) in
     let is = due_point d e b p room in
     let next = next_of d (parsed.Point x) in
     step l d (parsed.Point x) (cert_from (record d { points = d.points ++ x ∷ xs }) e) k is fit
@@ -262,12 +258,7 @@ events_few : (es : List Event) (least n : ℕ) → least ≤ n → rises_from le
     → length es + least ≤ n
 events_few [] least n h r b = omega arith
 events_few (e ∷ es) least n h r b =
-    let order = and_true (leb least e.clock) (rises_from (e.clock + 1) (map (λ x. x.clock) es)) r in
-    let low = and_true (ltb e.clock n) (clocks_below es n) b in
-    let from = leb-true least e.clock order.0 in
-    let to : e.clock < n = leb-true (suc e.clock) n low.0 in
-    let later = events_few es (e.clock + 1) n (omega (arith, to)) order.1 low.1 in
-    omega (arith, from, later)
+    grind (arith, nat_tests, events_few es (e.clock + 1) n)
 
 -- no kind of line is begun
 abbrev pub BetweenKinds : Draft → Type 0

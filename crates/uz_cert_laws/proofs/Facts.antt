@@ -439,17 +439,7 @@ handler_is Handler e = refl
 handler_is Alone e = absurd cc
 
 pub bit_only : (kind : Kind) (w : List ℕ) (bit : Bit) → bit_of (is_handler kind) w ≡ Ok bit → (w ≡ flag_word bit) × BitFits kind bit
-bit_only kind w bit e =
-    tested (bytes_eq w (codes "0")) e (λ t e. given At Zero bit e (word_is w (codes "0") t, tt))
-    (λ _ e. tested (bytes_eq w (codes "1")) e (λ t e. given At One bit e (word_is w (codes "1") t, tt))
-    (λ _ e. tested (bytes_eq w (codes "?")) e (λ t e. given At Free bit e (word_is w (codes "?") t, tt))
-    (λ _ e. tested (bytes_eq w (codes "o") && is_handler kind) e
-    (λ t e. let two = and_true (bytes_eq w (codes "o")) (is_handler kind) t in
-    given At OldBit bit e (word_is w (codes "o") two.0, handler_is kind two.1))
-    (λ _ e. absurd (fault_not why.Word bit e)))))
-  where
-    At : Bit → Type 0
-    At x = (w ≡ flag_word x) × BitFits kind x
+bit_only kind w bit e = grind (arith, nat_tests, word_is w, handler_is kind)
 
 pub bit_so : (kind : Kind) (bit : Bit) → BitFits kind bit → bit_of (is_handler kind) (flag_word bit) ≡ Ok bit
 bit_so kind Zero i = refl

@@ -77,93 +77,60 @@ due judge later (w ∷ ws) ended said e =
     let m = bind_ok (judge w) (λ n. later n (words_in ws ended)) said e in
     record { is = m.0; word = w; left = ws; parts = refl; judged = m.1; rest = m.2 }
 
--- the parts that were read, of which these words are the spelling
-record Read (form : LineForm) (list : List (List ℕ)) (ended : Bool) (said : ParsedLine) : Type 0 where
-  parts : Parts form
-  told : said ≡ says form parts
-  words : list ≡ spells form parts
-  end : ended ≡ true
-  fit : Fit form parts
+-- the parts that were read, what they say, and that the words are their spelling
+abbrev Read : LineForm → List (List ℕ) → Bool → ParsedLine → Type 0
+Read form list ended said =
+    (p : Parts form) × (said ≡ says form p) × (list ≡ spells form p) × (ended ≡ true) × Fit form p
 
 only : (form : LineForm) (list : List (List ℕ)) (ended : Bool) (said : ParsedLine) → IsReadable form → reads form (words_in list ended) ≡ Ok said
     → Read form list ended said
 only (fixed wanted form) list ended said s e =
     let d = due (fixed_of wanted) (λ n words. reads form words) list ended said e in
     let r = only form d.left ended said s d.rest in
-    record {
-      parts = r.parts;
-      told = r.told;
-      words = with_front list d.left (spells form r.parts) d.word wanted d.parts (fixed_is wanted d.word d.is d.judged) r.words;
-      end = r.end;
-      fit = r.fit;
-    }
+    let words = with_front list d.left (spells form r.0) d.word wanted d.parts (fixed_is wanted d.word d.is d.judged) r.2 in
+    (r.0, r.1, words, r.3, r.4)
 only (number a form) list ended said s e =
     let d = due (number_of a) (λ n words. reads (form n) words) list ended said e in
     let n = number_only a d.word d.is s.0 d.judged in
     let r = only (form d.is) d.left ended said (s.1 d.is n.1) d.rest in
-    record {
-      parts = (d.is, r.parts);
-      told = r.told;
-      words = with_front list d.left (spells (form d.is) r.parts) d.word (decimal d.is) d.parts n.0 r.words;
-      end = r.end;
-      fit = (n.1, r.fit);
-    }
+    let words = with_front list d.left (spells (form d.is) r.0) d.word (decimal d.is) d.parts n.0 r.2 in
+    ((d.is, r.0), r.1, words, r.3, (n.1, r.4))
 only (choice wanted form) list ended said s e =
     let d = due (choice_of wanted) (λ n words. reads (form n) words) list ended said e in
     let w = choice_word wanted d.word d.is d.judged in
     let r = only (form d.is) d.left ended said (s d.is) d.rest in
-    record {
-      parts = (d.is, r.parts);
-      told = r.told;
-      words = with_front list d.left (spells (form d.is) r.parts) d.word (word_at wanted d.is) d.parts w r.words;
-      end = r.end;
-      fit = (ap (choice_of wanted) (sym w) ∙ d.judged, r.fit);
-    }
+    let words = with_front list d.left (spells (form d.is) r.0) d.word (word_at wanted d.is) d.parts w r.2 in
+    ((d.is, r.0), r.1, words, r.3, (ap (choice_of wanted) (sym w) ∙ d.judged, r.4))
 only (slope limit form) list ended said s e =
     let d = due (slope_of limit) (λ z words. reads (form z) words) list ended said e in
     let z = slope_only limit d.word d.is s.0 d.judged in
     let r = only (form d.is) d.left ended said (s.1 d.is) d.rest in
-    record {
-      parts = (d.is, r.parts);
-      told = r.told;
-      words = with_front list d.left (spells (form d.is) r.parts) d.word (signed_word d.is) d.parts z.0 r.words;
-      end = r.end;
-      fit = (z.1, r.fit);
-    }
+    let words = with_front list d.left (spells (form d.is) r.0) d.word (signed_word d.is) d.parts z.0 r.2 in
+    ((d.is, r.0), r.1, words, r.3, (z.1, r.4))
 only (spans cells form) list ended said s e =
     let m = bind_ok (spans_of cells (words_in list ended)) (λ (p : Pieces). reads (form p.0) p.1) said e in
     let g = spans_gone cells list ended m.0 s.0 m.1 in
     let r = only (form m.0.0) m.0.1.list m.0.1.ended said (s.1 m.0.0) m.2 in
-    record {
-      parts = (m.0.0, r.parts);
-      told = r.told;
-      words = g.words ∙ ap (λ ws. map (ends_word 255) m.0.0 ++ ws) r.words;
-      end = sym g.end ∙ r.end;
-      fit = ((g.ranges, g.inside), r.fit);
-    }
+    let words = g.words ∙ ap (λ ws. map (ends_word 255) m.0.0 ++ ws) r.2 in
+    ((m.0.0, r.0), r.1, words, sym g.end ∙ r.3, ((g.ranges, g.inside), r.4))
 only (items shape cells say) list ended said s e =
     let m = bind_ok (read_items shape cells (words_in list ended)) (λ f. Ok (say f)) said e in
     let g = items_only shape cells (words_in list ended) m.0 s.0 m.1 in
     let h = g.regular in
-    record {
-      parts = m.0;
-      told = sym (fine_is (say m.0) said m.2);
-      words = g.words;
-      end = g.end;
-      fit = record {
-        regs_fit = h.fit.0.0;
-        pairs_fit = h.fit.1.0.0;
-        flags_fit = h.fit.1.1.0.0;
-        slots_fit = h.fit.1.1.1.0.0;
-        stack_fit = h.fit.1.1.1.0.1;
-        cells_fit = h.fit.1.1.1.1.0.0;
-        listed_fit = h.fit.1.1.1.1.1.0.0;
-        next_fit = let s = h.fit.1.1.1.1.1.1 in (s.2, s.1, s.0, h.plain_next);
-        plain_fit = h.plain_pairs;
-        meant = g.meant;
-      };
-    }
-only (finish told) [] true said s e = record { parts = tt; told = sym (fine_is told said e); words = refl; end = refl; fit = tt }
+    let fit : FactsFit shape cells m.0 = record {
+      regs_fit = h.fit.0.0;
+      pairs_fit = h.fit.1.0.0;
+      flags_fit = h.fit.1.1.0.0;
+      slots_fit = h.fit.1.1.1.0.0;
+      stack_fit = h.fit.1.1.1.0.1;
+      cells_fit = h.fit.1.1.1.1.0.0;
+      listed_fit = h.fit.1.1.1.1.1.0.0;
+      next_fit = let s = h.fit.1.1.1.1.1.1 in (s.2, s.1, s.0, h.plain_next);
+      plain_fit = h.plain_pairs;
+      meant = g.meant;
+    } in
+    (m.0, sym (fine_is (say m.0) said m.2), g.words, g.end, fit)
+only (finish told) [] true said s e = (tt, sym (fine_is told said e), refl, refl, tt)
 only (finish told) [] false said s e = absurd (fault_not why.NoEnd said e)
 only (finish told) (w ∷ ws) true said s e = absurd (fault_not why.Word said e)
 only (finish told) (w ∷ ws) false said s e = absurd (fault_not why.Word said e)
@@ -172,4 +139,4 @@ pub form_only : (form : LineForm) (words : Words) (said : ParsedLine) → IsRead
     → (p : Parts form) × (said ≡ says form p) × (words ≡ line (spells form p)) × Fit form p
 form_only form words said s e =
     let r = only form words.list words.ended said s e in
-    (r.parts, r.told, line_same words.list (spells form r.parts) words.ended r.words r.end, r.fit)
+    (r.0, r.1, line_same words.list (spells form r.0) words.ended r.2 r.3, r.4)

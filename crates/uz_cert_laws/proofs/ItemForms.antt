@@ -135,29 +135,12 @@ cell_limit shape cells i c h e = grind (arith, cell_range cells i c h e)
 
 numbered_is : (t : Bool) (m : Result Raw CertWhy) (r : Raw) → numbered t m ≡ Ok r → (t ≡ true) × (m ≡ Ok r)
 numbered_is true m r e = (refl, e)
-numbered_is false (Ok x) r e = absurd (fault_not why.Number r e)
-numbered_is false (Err why.Head) r e = absurd (fault_not why.Number r e)
-numbered_is false (Err why.Word) r e = absurd (fault_not why.Word r e)
-numbered_is false (Err why.Number) r e = absurd (fault_not why.Number r e)
-numbered_is false (Err why.Order) r e = absurd (fault_not why.Number r e)
-numbered_is false (Err why.Limit) r e = absurd (fault_not why.Number r e)
-numbered_is false (Err why.Unknown) r e = absurd (fault_not why.Number r e)
-numbered_is false (Err why.NoEnd) r e = absurd (fault_not why.Number r e)
-numbered_is false (Err why.Memory) r e = absurd (fault_not why.Number r e)
+numbered_is false m r e = grind (arith, nat_tests)
 
 cell_there : (cells : List Cell) (o : Option ℕ) (p : ℕ × Cell) → cell_at cells o ≡ Some p → (o ≡ Some p.0)
     × (slice_get cells p.0 ≡ Some p.1)
 cell_there cells None p e = absurd cc
-cell_there cells (Some i) p e = by_cell (slice_get cells i) refl e
-  where
-    pair_same : (a b : ℕ × Cell) → Some a ≡ Some b → a ≡ b
-    pair_same a b e = cc
-
-    by_cell : (o : Option Cell) → slice_get cells i ≡ o → with_number i o ≡ Some p → (Some i ≡ Some p.0) × (slice_get cells p.0 ≡ Some p.1)
-    by_cell None g e = absurd cc
-    by_cell (Some c) g e =
-        let same : ◌≡◌ {A = ℕ × Cell} (i, c) p = pair_same (i, c) p e in
-        subst (λ (q : ℕ × Cell). (Some i ≡ Some q.0) × (slice_get cells q.0 ≡ Some q.1)) same (refl, g)
+cell_there cells (Some i) p e = grind (arith, nat_tests)
 
 -- what is taken is one of these
 

@@ -301,7 +301,7 @@ record PlaceSaid (lines : ℕ) (at : PointPlace) : Type 0 where
   pub c1_main : at.kind ≡ Main → at.c1 ≡ 0
   pub clock_main : at.kind ≡ Main → at.clock ≡ 0
   pub slope_main : at.kind ≡ Main → magnitude at.slope ≡ 0
-  pub waits : (n : ℕ) × (at.pending ≡ eqb n 1) × (n < pending_limit at.kind)
+  pub waits : pending_limit at.kind ≡ 1 → at.pending ≡ false
 
 other_untimed : (version : Version) (kind : Kind) → is_handler kind ≡ false → is_timed version kind ≡ false
 other_untimed First kind e = refl
@@ -330,13 +330,13 @@ point_kind_fits version h lines points at f Main e p t = (
     last_count = p.c1_main e;
     clock = p.clock_main e;
     slope = no_slope at.slope (p.slope_main e);
-    pending = p.waits.1 ∙ none_waits p.waits.0 (subst (λ k. p.waits.0 < pending_limit k) e p.waits.2);
+    pending = p.waits (ap pending_limit e);
   },
   left_out (point_shape version h Main points) at f (other_untimed version Main refl) t,
 )
 point_kind_fits version h lines points at f Handler e p t = record { top = t.0.0.0; temp = t.1.0.0 }
 point_kind_fits version h lines points at f Alone e p t = (
-  p.waits.1 ∙ none_waits p.waits.0 (subst (λ k. p.waits.0 < pending_limit k) e p.waits.2),
+  p.waits (ap pending_limit e),
   left_out (point_shape version h Alone points) at f (other_untimed version Alone refl) t,
 )
 
@@ -344,43 +344,14 @@ has_text : (a b : Bool) → (a ≡ true → b ≡ false) → (a && b) ≡ false
 has_text true b h = h refl
 has_text false b h = refl
 
-core_fits : (version : Version) (h : Head) (points : ℕ) (at : PointPlace) (f : Facts)
-    → FactsFit (point_shape version h at.kind points) h.cells.items f
-    → CoreFits (point_of at f)
-unfolding point_of
-core_fits version h points at f r =
-    let kind = at.kind in
-    let shape = point_shape version h kind points in
-    record {
-      register_count = each_length (λ k x. FactIn (bytes_forms shape) x) registers f.regs r.regs_fit;
-      registers = All-weaker (FactIn (bytes_forms shape)) (FactFits kind) (fact_out shape) f.regs
-          (all_of_each (FactIn (bytes_forms shape)) registers f.regs r.regs_fit);
-      pair_count = each_length (λ k x. PairFits x) letters_of_pairs f.pairs r.pairs_fit;
-      pairs = all_of_each PairFits letters_of_pairs f.pairs r.pairs_fit;
-      flag_count = each_length (λ k x. BitFits kind x) letters_of_flags f.flags r.flags_fit;
-      flags = all_of_each (BitFits kind) letters_of_flags f.flags r.flags_fit;
-      text = has_text (is_zero_or_one (get_or f.pairs 2 AnyPair)) (is_carry_and_zero_default kind f.flags) r.meant;
-    }
-
-memory_fits : (version : Version) (h : Head) (points : ℕ) (at : PointPlace) (f : Facts)
-    → FactsFit (point_shape version h at.kind points) h.cells.items f
-    → MemoryFits h (point_of at f)
-unfolding point_of
-memory_fits version h points at f r =
-    let shape = point_shape version h at.kind points in
-    let cells = cells_out shape h.cells.items f.cells.items refl r.cells_fit in
-    record {
-      slots = r.slots_fit;
-      stack = All-weaker (FactIn (bytes_forms shape)) (FactFits at.kind) (fact_out shape) f.stack.items r.stack_fit;
-      cell_count = cells.0;
-      cells = cells.1;
-    }
-
 point_fits : (version : Version) (h : Head) (lines points : ℕ) (at : PointPlace) (f : Facts)
     → FactsFit (point_shape version h at.kind points) h.cells.items f
     → PlaceSaid lines at → PointFits h lines points (point_of at f)
 unfolding point_of
 point_fits version h lines points at f r p =
+    let kind = at.kind in
+    let shape = point_shape version h kind points in
+    let cells = cells_out shape h.cells.items f.cells.items refl r.cells_fit in
     record {
       kind = point_kind_fits version h lines points at f at.kind refl p r.listed_fit;
       rules = rules_out h.version at.kind (point_of at f) r.listed_fit.1.1.0 r.listed_fit.1.1.1.0;
@@ -393,8 +364,22 @@ point_fits version h lines points at f r p =
         clock = p.clock_in;
         slope = p.slope_in;
       };
-      core = core_fits version h points at f r;
-      memory = memory_fits version h points at f r;
+      core = record {
+        register_count = each_length (λ k x. FactIn (bytes_forms shape) x) registers f.regs r.regs_fit;
+        registers = All-weaker (FactIn (bytes_forms shape)) (FactFits kind) (fact_out shape) f.regs
+            (all_of_each (FactIn (bytes_forms shape)) registers f.regs r.regs_fit);
+        pair_count = each_length (λ k x. PairFits x) letters_of_pairs f.pairs r.pairs_fit;
+        pairs = all_of_each PairFits letters_of_pairs f.pairs r.pairs_fit;
+        flag_count = each_length (λ k x. BitFits kind x) letters_of_flags f.flags r.flags_fit;
+        flags = all_of_each (BitFits kind) letters_of_flags f.flags r.flags_fit;
+        text = has_text (is_zero_or_one (get_or f.pairs 2 AnyPair)) (is_carry_and_zero_default kind f.flags) r.meant;
+      };
+      memory = record {
+        slots = r.slots_fit;
+        stack = All-weaker (FactIn (bytes_forms shape)) (FactFits kind) (fact_out shape) f.stack.items r.stack_fit;
+        cell_count = cells.0;
+        cells = cells.1;
+      };
       next = record { few = r.next_fit.2; there = r.next_fit.1; rise = r.next_fit.0 };
     }
 
@@ -441,22 +426,7 @@ point_made version h lines points left kind q some g =
     let c1u = none_under kind 256 c1 (lit≤ tt) both.0 in
     let cu = none_under kind clock_limit clock (lit≤ tt) g.1.1.1.1.1.0.below in
     let su = none_under kind clock_limit (magnitude steps) (lit≤ tt) g.1.1.1.1.1.1.0 in
-    let place : PlaceSaid lines at = record {
-      pc = g.0.below;
-      line_order = g.1.1.0.low;
-      line = l1u.0;
-      count_order = g.1.1.1.1.0.low;
-      count = omega (arith, c1u.0);
-      clock_in = cu.0;
-      slope_in = su.0;
-      l0_main = l0u.1;
-      l1_main = l1u.1;
-      c0_main = c0u.1;
-      c1_main = c1u.1;
-      clock_main = cu.1;
-      slope_main = su.1;
-      waits = (n, refl, waits);
-    } in
+    let place : PlaceSaid lines at = grind (arith, nat_tests, g.0.below, g.1.1.0.low, g.1.1.1.1.0.low, l0u, l1u, c0u, c1u, cu, su, waits) in
     record {
       p = point_of at f;
       told = refl;
