@@ -237,12 +237,7 @@ with_cell h c = record h { cells = record { items = h.cells.items ++ c ∷ [] } 
 
 -- a cell fits with the same stack
 pub same_cell : (h k : Head) (x : Cell) → h.lo ≡ k.lo → h.hi ≡ k.hi → CellFits h x → CellFits k x
-same_cell h k x a b f = record {
-  low = f.low;
-  high = f.high;
-  off_stack = subst (λ n. (x.at < n) ⊎ (k.hi < x.at)) a (subst (λ n. (x.at < h.lo) ⊎ (n < x.at)) b f.off_stack);
-  range = f.range;
-}
+same_cell h k x a b f = grind (arith, a, b, f)
 
 cells_more : (h : Head) (c : Cell) (count least : ℕ) → CellsKept h count least → length h.cells.items < count → CellFits h c → least ≤ c.at
     → CellsKept (with_cell h c) count (c.at + 1)

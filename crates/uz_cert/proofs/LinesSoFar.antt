@@ -263,11 +263,15 @@ module _ (d : Draft) (k : Kept d) where
       ∙ sym (append_assoc kinds_closed begun_so_far (event_line e ∷ []))) empty)))
 
   -- the next line of the opening, which is empty so far
-  opened : (e : Draft) (w : List ℕ) → d.read ≤ 3 → e.read ≡ d.read + 1 → from_cells e ≡ from_cells d
-      → take (d.read + 1 - 1) (opening e) ≡ take (d.read - 1) (opening d) ++ w ∷ [] → so_far e ≡ so_far d ++ w ∷ []
-  opened e w o r c t =
+  opened : (e : Draft) (w : List ℕ) (n : ℕ) → d.read ≡ n → d.read ≤ 3 → e.read ≡ d.read + 1 → from_cells e ≡ from_cells d
+      → take (n + 1 - 1) (opening e) ≡ take (n - 1) (opening d) ++ w ∷ [] → so_far e ≡ so_far d ++ w ∷ []
+  opened e w n i o r c t =
       let empty = no_cells d k o in
-      grow 0 w (sections d) (sections e) (ap (λ n. take (n - 1) (opening e)) r ∙ t, empty, subst AreEmpty (sym c) empty)
+      grow 0 w (sections d) (sections e) (
+        ap (λ m. take (m - 1) (opening e)) (r ∙ ap (λ m. m + 1) i) ∙ t ∙ ap (λ m. take (m - 1) (opening d) ++ w ∷ []) (sym i),
+        empty,
+        subst AreEmpty (sym c) empty,
+      )
 
   lacks_none : (o : Option Entry) → lacks o ≡ true → o ≡ None
   lacks_none None e = refl
@@ -276,20 +280,11 @@ module _ (d : Draft) (k : Kept d) where
   pub so_far_after : (s : ParsedLine) → IsExpected d (expected_as s) → SaidFits d s → so_far (draft_after d s) ≡ so_far d ++ spelled d.version d.head s ∷ []
   unfolding draft_after
   so_far_after (parsed.Size s) i f =
-      let e = draft_after d (parsed.Size s) in
-      opened e (spelled d.version d.head (parsed.Size s)) f.0 refl refl
-      (ap (λ n. take (n + 1 - 1) (opening e)) i
-      ∙ ap (λ n. take (n - 1) (opening d) ++ spelled d.version d.head (parsed.Size s) ∷ []) (sym i))
+      opened (draft_after d (parsed.Size s)) (spelled d.version d.head (parsed.Size s)) 1 i f.0 refl refl refl
   so_far_after (parsed.Irq r) i f =
-      let e = draft_after d (parsed.Irq r) in
-      opened e (spelled d.version d.head (parsed.Irq r)) f refl refl
-      (ap (λ n. take (n + 1 - 1) (opening e)) i
-      ∙ ap (λ n. take (n - 1) (opening d) ++ spelled d.version d.head (parsed.Irq r) ∷ []) (sym i))
+      opened (draft_after d (parsed.Irq r)) (spelled d.version d.head (parsed.Irq r)) 2 i f refl refl refl
   so_far_after (parsed.Stack s) i f =
-      let e = draft_after d (parsed.Stack s) in
-      opened e (spelled d.version d.head (parsed.Stack s)) f.0 refl refl
-      (ap (λ n. take (n + 1 - 1) (opening e)) i
-      ∙ ap (λ n. take (n - 1) (opening d) ++ spelled d.version d.head (parsed.Stack s) ∷ []) (sym i))
+      opened (draft_after d (parsed.Stack s)) (spelled d.version d.head (parsed.Stack s)) 3 i f.0 refl refl refl
   so_far_after (parsed.Cell c) i f =
       let empty = l.kinds (inr f.room) in
       let fall = l.fall (inl (inr f.room)) in

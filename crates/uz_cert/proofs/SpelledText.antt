@@ -108,12 +108,8 @@ rests_again l d (r ∷ rs) e ps k b p s =
     let cells : d.sizes.cells ≡ length d.head.cells.items = p.0.0.0 in
     let room : length d.rests < d.sizes.rests = omega (arith, count) in
     let order = and_true (leb d.rest_least r.line) (rises_from (r.line + 1) (map (λ x. x.line) rs)) s.0.2 in
-    let fit : SaidFits d (parsed.Rest r) = record {
-      after = record { body = b; cells = omega (arith, cells) };
-      room = room;
-      fits = All-head (RestFits d.head d.sizes.lines d.sizes.points) r rs s.0.1;
-      order = leb-true d.rest_least r.line order.0;
-    } in
+    let fit : SaidFits d (parsed.Rest r) = grind (arith, b, cells, room, leb-true d.rest_least r.line order.0,
+    All-head (RestFits d.head d.sizes.lines d.sizes.points) r rs s.0.1) in
     let is = due_rest d b p room in
     let next = next_of d (parsed.Rest r) in
     step l d (parsed.Rest r) (cert_from (record d { rests = d.rests ++ r ∷ rs; points = ps }) e) k is fit
@@ -145,13 +141,8 @@ runs_again l d (r ∷ runs) rs e ps k b p apart kinds count s =
     let same = length-replicate r.0 r.1 in
     let some = apart.0 in
     let room : length d.lines < d.sizes.lines = omega (arith, count, size, same, some) in
-    let fit : SaidFits d (parsed.Run (record { count = r.0; kind = r.1 })) = record {
-      body = b;
-      some = apart.0;
-      few = omega (arith, count, size, same);
-      there = All-head (λ x. x.1 < d.sizes.kinds) r runs kinds;
-      other = apart.1;
-    } in
+    let fit : SaidFits d (parsed.Run (record { count = r.0; kind = r.1 })) =
+    grind (arith, b, apart.0, apart.1, count, size, same, All-head (λ x. x.1 < d.sizes.kinds) r runs kinds) in
     let says = parsed.Run (record { count = r.0; kind = r.1 }) in
     let is = due_run d b p room in
     step l d says (cert_from (record d { lines = d.lines ++ expand (r ∷ runs); rests = d.rests ++ rs; points = ps }) e) k is fit
@@ -222,13 +213,7 @@ events_again : (l : LineSpelling) (d : Draft) (e : Event) (es : List Event) (c :
 events_again l d e [] c k b p owed fits rise low later =
     let order = and_true (leb d.event_least e.clock) true rise in
     let below = and_true (ltb e.clock d.clocks) true low in
-    let fit : SaidFits d (parsed.Event e) = record {
-      body = b;
-      owed = omega (arith, owed);
-      fits = All-head EventFits e [] fits;
-      below = leb-true (suc e.clock) d.clocks below.0;
-      order = leb-true d.event_least e.clock order.0;
-    } in
+    let fit : SaidFits d (parsed.Event e) = grind (arith, nat_tests, b, owed, All-head EventFits e [] fits, below.0, order.0) in
     let none : d.owed - 1 ≡ 0 = omega (arith, owed) in
     let last : next_of d (parsed.Event e) ≡ record (with_last d e) { owed = 0 } = last_next d e (equal (d.owed - 1) 0 none)
     ∙ ap (λ n. record (with_last d e) { owed = n }) none in
@@ -238,13 +223,7 @@ events_again l d e [] c k b p owed fits rise low later =
 events_again l d e (x ∷ es) c k b p owed fits rise low later =
     let order = and_true (leb d.event_least e.clock) (rises_from (e.clock + 1) (map (λ y. y.clock) (x ∷ es))) rise in
     let below = and_true (ltb e.clock d.clocks) (clocks_below (x ∷ es) d.clocks) low in
-    let fit : SaidFits d (parsed.Event e) = record {
-      body = b;
-      owed = omega (arith, owed);
-      fits = All-head EventFits e (x ∷ es) fits;
-      below = leb-true (suc e.clock) d.clocks below.0;
-      order = leb-true d.event_least e.clock order.0;
-    } in
+    let fit : SaidFits d (parsed.Event e) = grind (arith, nat_tests, b, owed, All-head EventFits e (x ∷ es) fits, below.0, order.0) in
     let next = event_next d e (not_equal (d.owed - 1) 0 (omega (arith, owed))) in
     let is = due_event d b p (omega (arith, owed)) in
     step l d (parsed.Event e) c k is fit
@@ -293,12 +272,8 @@ kinds_again l d ((e ∷ es) ∷ kinds) (n ∷ lengths) c k b p between count fit
     let few = events_few (e ∷ es) 0 n (omega arith) first.rise this.1 in
     let room : length d.kinds < d.sizes.kinds = omega (arith, count) in
     let says : KindLine = record { events = length (e ∷ es); clocks = n } in
-    let fit : SaidFits d (parsed.Kind says) = record {
-      body = b;
-      none_owed = between.0;
-      room = room;
-      fits = record { some = first.some; few = omega (arith, few); clocks = All-head (IsLengthIn d.version) n lengths own };
-    } in
+    let fit : SaidFits d (parsed.Kind says) =
+    grind (arith, b, between.0, room, first.some, few, All-head (IsLengthIn d.version) n lengths own) in
     let is = due_kind d b p between.0 room in
     let next = next_of d (parsed.Kind says) in
     let rise : rises_from d.event_least (map (λ x. x.clock) (e ∷ es)) ≡ true =
@@ -333,12 +308,8 @@ cells_again l d [] c k b count fits rise later =
 cells_again l d (m ∷ cells) c k b count fits rise later =
     let order = and_true (leb d.cell_least m.at) (rises_from (m.at + 1) (map (λ m. m.at) cells)) rise in
     let room : length d.head.cells.items < d.sizes.cells = omega (arith, count) in
-    let fit : SaidFits d (parsed.Cell m) = record {
-      body = b;
-      room = room;
-      fits = All-head (CellFits d.head) m cells fits;
-      order = leb-true d.cell_least m.at order.0;
-    } in
+    let fit : SaidFits d (parsed.Cell m) =
+    grind (arith, b, room, All-head (CellFits d.head) m cells fits, leb-true d.cell_least m.at order.0) in
     let is = due_cell d b room in
     let next = next_of d (parsed.Cell m) in
     let refitted = All-weaker (CellFits d.head) (CellFits next.head) (λ x f. same_cell d.head next.head x refl refl f) cells

@@ -160,14 +160,6 @@ cell_only h least words says e =
       record { at = p.0; owner = owner_of p.1.0; range = ends p.1.1.0 p.1.1.1.0 },
       r.1,
       r.2 ∙ ap (λ w. line (codes "cell" ∷ decimal p.0 ∷ w ∷ decimal p.1.1.0 ∷ decimal p.1.1.1.0 ∷ [])) (owner_read p.1.0 f.1.0),
-      record {
-        low = f.0.low;
-        high = omega (arith, f.0.below);
-        off_stack = off p.0 f.0.outside;
-        range = record { order = f.1.1.1.0.low; high = omega (arith, f.1.1.1.0.below) };
-      },
+      grind (arith, f.0.low, f.0.below, f.0.outside, f.1.1.1.0.low, f.1.1.1.0.below),
       f.0.least,
     )
-  where
-    off : (n : ℕ) → ((n < h.lo) ⊎ (h.hi + 1 ≤ n)) → (n < h.lo) ⊎ (h.hi < n)
-    off n d = elim d [ inl x ↦ inl x | inr x ↦ inr (omega arith) ]

@@ -36,24 +36,13 @@ top_below top h = grind (arith, nat_tests)
 
 -- what is asked of the timer: where its items may not stand, it has the defaults
 
-whole_fits : RangeFits 255 whole_byte
-whole_fits = record { order = lit≤ tt; high = lit≤ tt }
+left_out_fits : (p : Point) → IsTimerLeftOut p → (is_top p.top ≡ true) × RangeFits 255 p.temp
+left_out_fits p h = (ap is_top h.top, subst (RangeFits 255) (sym h.temp) (record { order = lit≤ tt; high = lit≤ tt }))
 
-left_out_top : (p : Point) → IsTimerLeftOut p → is_top p.top ≡ true
-left_out_top p h = ap is_top h.top
-
-left_out_temp : (p : Point) → IsTimerLeftOut p → RangeFits 255 p.temp
-left_out_temp p h = subst (RangeFits 255) (sym h.temp) whole_fits
-
-pub point_top : (kind : Kind) (p : Point) → PointKindFits kind p → is_top p.top ≡ true
-point_top Main p h = left_out_top p h.1
-point_top Handler p h = h.top
-point_top Alone p h = left_out_top p h.1
-
-pub point_temp : (kind : Kind) (p : Point) → PointKindFits kind p → RangeFits 255 p.temp
-point_temp Main p h = left_out_temp p h.1
-point_temp Handler p h = h.temp
-point_temp Alone p h = left_out_temp p h.1
+timer_fits : (kind : Kind) (p : Point) → PointKindFits kind p → (is_top p.top ≡ true) × RangeFits 255 p.temp
+timer_fits Main p h = left_out_fits p h.1
+timer_fits Handler p h = (h.top, h.temp)
+timer_fits Alone p h = left_out_fits p h.1
 
 point_untimed : (version : Version) (kind : Kind) (p : Point) → PointKindFits kind p → IsPointIn version p → is_timed version kind ≡ false
     → IsTimerLeftOut p
@@ -106,6 +95,7 @@ point_sayable : (version : Version) (h : Head) (lines points : ℕ) (p : Point) 
 point_sayable version h lines points p f o =
     let shape = point_shape version h p.kind points in
     let rules = rules_in h.version p.kind p f.rules in
+    let timer = timer_fits p.kind p f.kind in
     record {
       regs_fit = each_of_all (FactIn (bytes_forms shape)) registers p.regs f.core.register_count
           (All-weaker (FactFits p.kind) (FactIn (bytes_forms shape)) (λ x i. fact_in shape x refl i) p.regs f.core.registers);
@@ -115,9 +105,9 @@ point_sayable version h lines points p f o =
       stack_fit = All-weaker (FactFits p.kind) (FactIn (bytes_forms shape)) (λ x i. fact_in shape x refl i) p.stack.items f.memory.stack;
       cells_fit = cells_in shape h.cells.items p.cells.items refl f.memory.cell_count f.memory.cells;
       listed_fit = (
-        ((point_top p.kind p f.kind, top_below p.top (point_top p.kind p f.kind)), λ u. (point_untimed version p.kind p f.kind o u).top),
+        ((timer.0, top_below p.top timer.0), λ u. (point_untimed version p.kind p f.kind o u).top),
         (
-          (point_temp p.kind p f.kind, λ u. (point_untimed version p.kind p f.kind o u).temp),
+          (timer.1, λ u. (point_untimed version p.kind p f.kind o u).temp),
           (rules.0, (rules.1, tt)),
         ),
       );
@@ -171,10 +161,10 @@ truth_under Handler p h = by_case p.pending
     by_case false = lit< tt
 truth_under Alone p h = subst (λ b. truth_number b < 1) (sym h.0) (lit< tt)
 
-pending_small : (kind : Kind) → pending_limit kind ≤ 2 ^ 31
-pending_small Main = lit≤ tt
-pending_small Handler = lit≤ tt
-pending_small Alone = lit≤ tt
+pending_two : (kind : Kind) → pending_limit kind ≤ 2
+pending_two Main = lit≤ tt
+pending_two Handler = lit≤ tt
+pending_two Alone = lit≤ tt
 
 point_shape_fits : (version : Version) (h : Head) (lines points : ℕ) (kind : Kind) → PlacesAre h lines points
     → ShapeFits (point_shape version h kind points) h.cells.items
@@ -194,7 +184,7 @@ after_sound version h lines points left kind a =
     let lines_small = none_small kind lines (omega arith) in
     let counts_small = none_small kind 256 (lit≤ tt) in
     let clocks_small = none_small kind clock_limit (lit≤ tt) in
-    let waits_small = pending_small kind in
+    let waits_small = pending_two kind in
     both_of (lit≤ tt) (λ pc i. both_of (omega (arith, lines_small)) (λ l0 j. both_of (omega (arith, lines_small)) (λ l1 k.
     both_of (omega (arith, counts_small)) (λ c0 o.
     both_of (omega (arith, least_small (none_in_main kind 256) (c0 + left / (l1 - l0 + 1)) counts_small)) (λ c1 q.
@@ -255,7 +245,7 @@ point_again version h lines points left p a small f o fits =
     (both_of (within_so 0 (none_in_main kind clock_limit) p.clock clocks_small (omega arith)
     (under_none kind clock_limit p.clock (λ m. (begin m).clock) f.box.clock))
     (both_of (under_none kind clock_limit (magnitude p.slope) (λ m. ap magnitude (begin m).slope) f.box.slope)
-    (both_of (within_so 0 (pending_limit kind) n (pending_small kind) (omega arith) (truth_under kind p f.kind))
+    (both_of (within_so 0 (pending_limit kind) n (omega (arith, pending_two kind)) (omega arith) (truth_under kind p f.kind))
     (point_sayable version h lines points p f o)))))))))
     ∙ ap (λ (x : Point). fine (parsed.Point x)) (point_back p n (truth_back p.pending))
 
@@ -277,11 +267,6 @@ truth_is : (n : ℕ) → n < 2 → decimal n ≡ truth_word (eqb n 1)
 truth_is zero h = decimal_digit 0 (lit< tt)
 truth_is (suc zero) h = decimal_digit 1 (lit< tt)
 truth_is (suc (suc n)) h = absurd (omega arith)
-
-pending_two : (kind : Kind) → pending_limit kind ≤ 2
-pending_two Main = lit≤ tt
-pending_two Handler = lit≤ tt
-pending_two Alone = lit≤ tt
 
 none_waits : (n : ℕ) → n < 1 → eqb n 1 ≡ false
 none_waits n h = grind (arith, nat_tests)

@@ -61,14 +61,7 @@ pub cells_are : (kind : Kind) (i : ℕ) (cs : List Cell) (fs : List Fact)
     → cell_items kind i cs fs ≡ options in_range cell_word (numbered_cells kind i cs) fs
 cells_are kind i [] fs = refl
 cells_are kind i (c ∷ cs) [] = sym (no_values (numbered_cells kind i (c ∷ cs)))
-cells_are kind i (c ∷ cs) (f ∷ fs) = by_own (tracks kind c.owner) (cells_are kind (suc i) cs fs) (cells_are kind (suc i) cs (f ∷ fs))
-  where
-    by_own : (t : Bool) → cell_items kind (suc i) cs fs ≡ options in_range cell_word (numbered_cells kind (suc i) cs) fs
-        → cell_items kind (suc i) cs (f ∷ fs) ≡ options in_range cell_word (numbered_cells kind (suc i) cs) (f ∷ fs)
-        → cond t (unless (is_range c.range f) (cell_word (i, c) f) (cell_items kind (suc i) cs fs)) (cell_items kind (suc i) cs (f ∷ fs))
-        ≡ options in_range cell_word (cond t ((i, c) ∷ numbered_cells kind (suc i) cs) (numbered_cells kind (suc i) cs)) (f ∷ fs)
-    by_own true a b = ap (unless (is_range c.range f) (cell_word (i, c) f)) a
-    by_own false a b = b
+cells_are kind i (c ∷ cs) (f ∷ fs) = grind (arith, cells_are kind (suc i) cs fs, cells_are kind (suc i) cs (f ∷ fs))
 
 -- the defaults are these
 
