@@ -86,11 +86,7 @@ lines_to c last =
     ∷ (map (λ m. line_of (cell_words m)) c.head.cells.items ++ after_cells c last)
 
 states_more : (c : Cert) (xs ys : List (List ℕ)) → states c (xs ++ ys) ≡ states c xs ++ ys
-states_more c xs ys =
-    let rests = map (λ r. line_of (rest_words r)) c.rests in
-    let entry = line_of (entry_words c.head.cells.items c.entry) in
-    let points = map (λ p. line_of (point_words c.head.cells.items p)) c.points in
-    ap (λ t. rests ++ (entry ∷ t)) (sym (append_assoc points xs ys)) ∙ sym (append_assoc rests (entry ∷ (points ++ xs)) ys)
+states_more c xs ys = simp append_assoc
 
 after_more : (c : Cert) (xs ys : List (List ℕ)) → after_cells c (xs ++ ys) ≡ after_cells c xs ++ ys
 after_more c xs ys =
@@ -107,48 +103,24 @@ lines_more c xs ys =
     (ap (λ t. cells ++ t) (after_more c xs ys) ∙ sym (append_assoc cells (after_cells c xs) ys))
 
 states_ended : (c : Cert) → ended (states c (codes "end" ∷ [])) ≡ state_text c
-states_ended c =
-    let rests = map (λ r. line_of (rest_words r)) c.rests in
-    let entry = entry_words c.head.cells.items c.entry in
-    let points = map (λ p. line_of (point_words c.head.cells.items p)) c.points in
-    let last = codes "end" ∷ [] in
-    ended_append rests (line_of entry ∷ (points ++ last))
-    ∙ ap (λ t. ended rests ++ t) (sym (line_ended entry (points ++ last)) ∙ ap (λ t. line_end entry ++ t) (ended_append points last))
+states_ended c = simp (ended_append, append_assoc)
 
 after_ended : (c : Cert) (last : List (List ℕ)) → ended (after_cells c last) ≡ schedule_text c.schedule ++ ended (states c last)
 after_ended c last =
-    let kinds = ended (kinds_then Second c.schedule.kinds c.schedule.lengths []) in
-    let fall = line_end (fall_words c.schedule) in
-    let runs = run_lines (runs_of c.schedule.lines) in
-    kinds_ended c.schedule.kinds c.schedule.lengths (line_of (fall_words c.schedule) ∷ (runs ++ states c last))
-    ∙ ap (λ t. kinds ++ t)
-    (sym (line_ended (fall_words c.schedule) (runs ++ states c last))
-    ∙ ap (λ t. fall ++ t) (ended_append runs (states c last)))
-    ∙ sym (append_assoc kinds (fall ++ ended runs) (ended (states c last))
-    ∙ ap (λ t. kinds ++ t) (append_assoc fall (ended runs) (ended (states c last))))
+    kinds_ended c.schedule.kinds c.schedule.lengths (line_of (fall_words c.schedule) ∷ (run_lines (runs_of c.schedule.lines) ++ states c last))
+    ∙ simp (ended_append, append_assoc)
+
+-- four lines and others, in two parts
+ended_four : (a b c d : List (List ℕ)) (xs ys : List (List ℕ)) → ended (line_of a ∷ line_of b ∷ line_of c ∷ line_of d ∷ (xs ++ ys))
+    ≡ (line_end a ++ (line_end b ++ (line_end c ++ (line_end d ++ ended xs)))) ++ ended ys
+ended_four a b c d xs ys = simp (ended_append, append_assoc)
 
 head_ended : (c : Cert) (after : List (List ℕ))
     → ended (head_of c ∷ line_of (size_words c) ∷ line_of (irq_words c.head) ∷ line_of (stack_words c.head)
     ∷ (map (λ m. line_of (cell_words m)) c.head.cells.items ++ after))
     ≡ head_text c ++ ended after
 head_ended c after =
-    let cells = map (λ m. line_of (cell_words m)) c.head.cells.items in
-    let size = line_end (size_words c) in
-    let irq = line_end (irq_words c.head) in
-    let stack = line_end (stack_words c.head) in
-    let after_head = line_of (size_words c) ∷ line_of (irq_words c.head) ∷ line_of (stack_words c.head) ∷ (cells ++ after) in
-    sym (line_ended (head_of c ∷ []) after_head)
-    ∙ ap (λ t. line_end (head_of c ∷ []) ++ t)
-    (sym (line_ended (size_words c) (line_of (irq_words c.head) ∷ line_of (stack_words c.head) ∷ (cells ++ after)))
-    ∙ ap (λ t. size ++ t)
-    (sym (line_ended (irq_words c.head) (line_of (stack_words c.head) ∷ (cells ++ after)))
-    ∙ ap (λ t. irq ++ t)
-    (sym (line_ended (stack_words c.head) (cells ++ after))
-    ∙ ap (λ t. stack ++ t) (ended_append cells after)
-    ∙ sym (append_assoc stack (ended cells) (ended after)))
-    ∙ sym (append_assoc irq (stack ++ ended cells) (ended after)))
-    ∙ sym (append_assoc size (irq ++ (stack ++ ended cells)) (ended after)))
-    ∙ sym (append_assoc (line_end (head_of c ∷ [])) (size ++ (irq ++ (stack ++ ended cells))) (ended after))
+    ended_four (head_of c ∷ []) (size_words c) (irq_words c.head) (stack_words c.head) (map (λ m. line_of (cell_words m)) c.head.cells.items) after
 
 -- the text in three parts
 pub spelling_parts : (c : Cert) → spelling (text_version c.head.version) c ≡ head_text c ++ (schedule_text c.schedule ++ state_text c)

@@ -13,21 +13,13 @@ use Rattle.uz_schedule.specs.{declared.states.Rest.Rest, declared.states.Entry.E
 -- a first word and two lists of others
 line_of_two : (first : List ℕ) (ws vs : List (List ℕ)) → line_end (first ∷ (ws ++ vs)) ≡ first ++ (spaced ws ++ (spaced vs ++ 10 ∷ []))
 line_of_two first ws vs =
-    ap (λ t. t ++ 10 ∷ []) (join_words first (ws ++ vs) ∙ ap (λ t. first ++ t) (spaced_append ws vs))
-    ∙ append_assoc first (spaced ws ++ spaced vs) (10 ∷ [])
-    ∙ ap (λ t. first ++ t) (append_assoc (spaced ws) (spaced vs) (10 ∷ []))
+    ap (λ t. t ++ 10 ∷ []) (join_words first (ws ++ vs)) ∙ simp (spaced_append, append_assoc)
 
 pub rest_is : (r : Rest) → rest_text r ≡ line_end (rest_words r)
 rest_is r = sym (line_of_two (codes "rest") (decimal r.line ∷ decimal r.clock ∷ decimal r.vector ∷ []) (map (ends_word 255) r.cells.items))
 
 entry_facts_are : (cells : List Cell) (e : Entry) → spaced (entry_items cells e) ≡ entry_facts cells e
-entry_facts_are cells e =
-    let regs = register_items e.kind 0 (range_facts e.regs) in
-    let flags = flag_items e.kind (codes "cznvsht") e.flags in
-    let slots = slot_items (range_facts e.stack.items) in
-    let facts = cell_items e.kind 0 cells (range_facts e.cells.items) in
-    spaced_append regs (flags ++ (slots ++ facts))
-    ∙ ap (λ t. spaced regs ++ t) (spaced_append flags (slots ++ facts) ∙ ap (λ t. spaced flags ++ t) (spaced_append slots facts))
+entry_facts_are cells e = simp spaced_append
 
 pub entry_is : (cells : List Cell) (e : Entry) → entry_text cells e ≡ line_end (entry_words cells e)
 entry_is cells e =
@@ -47,28 +39,25 @@ after_flags cells p =
     slot_items p.stack.items ++ (cell_items p.kind 0 cells p.cells.items
     ++ (listed_items named_items (values_of p) ++ successor_items p.next.items))
 
+-- lists of words, in two parts
+
+spaced_three : (a b c : List (List ℕ)) → spaced (a ++ (b ++ c)) ≡ (spaced a ++ spaced b) ++ spaced c
+spaced_three a b c = simp (spaced_append, append_assoc)
+
+spaced_four : (a b c d : List (List ℕ)) → spaced (a ++ (b ++ (c ++ d))) ≡ (spaced a ++ (spaced b ++ spaced c)) ++ spaced d
+spaced_four a b c d = simp (spaced_append, append_assoc)
+
 memory_facts_are : (cells : List Cell) (p : Point) → spaced (after_flags cells p) ≡ memory_text cells p ++ onward_text p
 memory_facts_are cells p =
-    let slots = slot_items p.stack.items in
-    let facts = cell_items p.kind 0 cells p.cells.items in
-    let later = listed_items named_items (values_of p) ++ successor_items p.next.items in
-    spaced_append slots (facts ++ later)
-    ∙ ap (λ t. spaced slots ++ t) (spaced_append facts later
-    ∙ ap (λ t. spaced facts ++ t) (listed_are named_items (values_of p) (successor_items p.next.items)))
-    ∙ sym (append_assoc (spaced slots) (spaced facts) (onward_text p))
+    spaced_three (slot_items p.stack.items) (cell_items p.kind 0 cells p.cells.items)
+    (listed_items named_items (values_of p) ++ successor_items p.next.items)
+    ∙ ap (λ t. memory_text cells p ++ t) (listed_are named_items (values_of p) (successor_items p.next.items))
 
 point_facts_are : (cells : List Cell) (p : Point) → spaced (point_items cells p) ≡ core_text p ++ (memory_text cells p ++ onward_text p)
 point_facts_are cells p =
-    let regs = register_items p.kind 0 p.regs in
-    let pairs = pair_items (codes "xyz") p.pairs in
-    let flags = flag_items p.kind (codes "cznvsht") p.flags in
-    let memory = after_flags cells p in
-    let told = memory_text cells p ++ onward_text p in
-    spaced_append regs (pairs ++ (flags ++ memory))
-    ∙ ap (λ t. spaced regs ++ t) (spaced_append pairs (flags ++ memory)
-    ∙ ap (λ t. spaced pairs ++ t) (spaced_append flags memory ∙ ap (λ t. spaced flags ++ t) (memory_facts_are cells p))
-    ∙ sym (append_assoc (spaced pairs) (spaced flags) told))
-    ∙ sym (append_assoc (spaced regs) (spaced pairs ++ spaced flags) told)
+    spaced_four (register_items p.kind 0 p.regs) (pair_items (codes "xyz") p.pairs) (flag_items p.kind (codes "cznvsht") p.flags)
+    (after_flags cells p)
+    ∙ ap (λ t. core_text p ++ t) (memory_facts_are cells p)
 
 pub point_is : (cells : List Cell) (p : Point) → point_text cells p ≡ line_end (point_words cells p)
 point_is cells p =
