@@ -1,4 +1,5 @@
 -- The lines of a frame as runs of one kind, and back.
+use Rattle.std.proofs.lemmas.Bool.Decides.{nat_tests}
 use Rattle.uz_cert.proofs.Common.{◌≡◌, ◌≢◌, ℕ, zero, suc, ◌+◌, ◌<◌, ◌≤◌, Bool, true, false, cond, eqb, List, [], ◌∷◌, ◌++◌, replicate}
 use Rattle.uz_cert.proofs.Common.{All, refl, sym, ◌∙◌, ap, subst, append-nil, arith, ⊤, eqb-true, eqb-false, not_number, All-nil}
 use Rattle.uz_cert.proofs.Common.{All-cons, All-head, All-tail, runs_of, LastIs}
@@ -86,23 +87,14 @@ run_again (suc n) kind rs apart e = ap (run_before kind) (run_again n kind rs ap
 
 before_some : (kind : ℕ) (rs : List (ℕ × ℕ)) (r : ℕ × ℕ) → rs ≢ [] → run_before kind (rs ++ r ∷ []) ≡ run_before kind rs ++ r ∷ []
 before_some kind [] r h = absurd (h refl)
-before_some kind (q ∷ rs) r h = by (eqb q.1 kind)
-  where
-    by : (t : Bool) → cond t ((q.0 + 1, kind) ∷ (rs ++ r ∷ [])) ((1, kind) ∷ q ∷ (rs ++ r ∷ []))
-        ≡ cond t ((q.0 + 1, kind) ∷ rs) ((1, kind) ∷ q ∷ rs) ++ r ∷ []
-    by true = refl
-    by false = refl
+before_some kind (q ∷ rs) r h = grind (arith, nat_tests)
 
 runs_some : (x : ℕ) (xs : List ℕ) → runs_of (x ∷ xs) ≢ []
 runs_some x xs = by (runs_of xs)
   where
     by : (rs : List (ℕ × ℕ)) → run_before x rs ≢ []
     by [] e = cc e
-    by (r ∷ rs) e = tested (eqb r.1 x) e
-      where
-        tested : (t : Bool) → cond t ((r.0 + 1, x) ∷ rs) ((1, x) ∷ r ∷ rs) ≢ []
-        tested true e = cc e
-        tested false e = cc e
+    by (r ∷ rs) e = grind (arith, nat_tests)
 
 pub runs_more : (before kind : ℕ) (lines : List ℕ) (n : ℕ) → LastIs before lines → kind ≢ before → 1 ≤ n
     → runs_of (lines ++ replicate n kind) ≡ runs_of lines ++ (n, kind) ∷ []

@@ -55,16 +55,9 @@ abbrev stack_of : Head → StackLine
 stack_of h = record { lo = h.lo; hi = h.hi; main = h.main; handler = h.handler }
 
 sizes_fit : (c : Cert) → WellFormed c → SizesFit (sizes_of c)
-sizes_fit c w = record {
-  kinds_some = w.schedule.kinds.some;
-  kinds_few = w.schedule.kinds.few;
-  lines_some = w.schedule.lines.some;
-  lines_few = w.schedule.lines.few;
-  rests_few = w.rests.few;
-  points_some = w.points.some;
-  points_few = w.points.few;
-  cells_few = w.head.few;
-}
+sizes_fit c w =
+    grind (arith, w.schedule.kinds.some, w.schedule.kinds.few, w.schedule.lines.some, w.schedule.lines.few, w.rests.few, w.points.some,
+    w.points.few, w.head.few)
 
 -- after the opening
 middle_again : (l : LineSpelling) (v : Version) (c : Cert) → WellFormed c → IsOfVersion v c
@@ -94,7 +87,7 @@ lines_again l v c w own =
     let d_size = draft_sizes v (sizes_of c) in
     let d_irq = draft_irq v (sizes_of c) c.head.irq in
     let stack : StackFits (record d_irq.head { lo = c.head.lo; hi = c.head.hi; main = c.head.main; handler = c.head.handler }) =
-    record { low = s.low; order = s.order; high = s.high; main = s.main; handler = s.handler; room = s.room } in
+    grind (arith, s) in
     let is_size = due_size (first_draft v) refl in
     let is_irq = due_irq d_size refl in
     let is_stack = due_stack d_irq refl in

@@ -91,8 +91,7 @@ cut_none c (b ∷ bs) h =
     ∙ ap (cut_behind (b ∷ [])) (cut_none c bs (All-tail (λ x. eqb x c ≡ false) b bs h))
 
 pub digits_so : (n : ℕ) → n < 2 ^ 64 → digits (decimal n) ≡ true
-digits_so n h = both_true (ltb 0 (length (decimal n))) (all_digits (decimal n)) (is_lt 0 (length (decimal n)) (decimal_nonempty n h))
-    (digits_of_decimal n h)
+digits_so n h = grind (arith, nat_tests, decimal_nonempty n h, digits_of_decimal n h)
 
 -- a number with a sign
 
@@ -199,8 +198,7 @@ unfolding two_numbers
 two_only la lb limit a b p h e =
     let words = passed (digits a && digits b)
     (cond (is_numeral a && is_numeral b) (both (number_within la limit a) (number_within lb limit b)) (Err why.Number)) why.Word p e in
-    let numerals = passed (is_numeral a && is_numeral b) (both (number_within la limit a) (number_within lb limit b)) why.Number p
-    words.1 in
+    let numerals = passed (is_numeral a && is_numeral b) (both (number_within la limit a) (number_within lb limit b)) why.Number p words.1 in
     let some = both_some (number_within la limit a) (number_within lb limit b) p numerals.1 in
     (within_read la limit p.0 a h some.0, within_read lb limit p.1 b h some.1)
 

@@ -166,16 +166,7 @@ cell_number kind (x ∷ xs) zero a c e t =
     ap (λ b. slice_get (cond b ((a, x) ∷ numbered_cells kind (suc a) xs) (numbered_cells kind (suc a) xs)) 0)
     (ap (λ (y : Cell). tracks kind y.owner) same ∙ t)
     ∙ numbered_same a (a + 0) x c (omega arith) same
-cell_number kind (x ∷ xs) (suc i) a c e t = by_own (tracks kind x.owner) (cell_number kind xs i (suc a) c e t)
-  where
-    moved : ◌≡◌ {A = Option (ℕ × Cell)} (Some (suc a + i, c)) (Some (a + suc i, c))
-    moved = numbered_same (suc a + i) (a + suc i) c c (omega arith) refl
-
-    by_own : (b : Bool) → slice_get (numbered_cells kind (suc a) xs) (tracked_before kind i xs) ≡ Some (suc a + i, c)
-        → slice_get (cond b ((a, x) ∷ numbered_cells kind (suc a) xs) (numbered_cells kind (suc a) xs))
-        (cond b (tracked_before kind i xs + 1) (tracked_before kind i xs)) ≡ Some (a + suc i, c)
-    by_own true h = ap (slice_get ((a, x) ∷ numbered_cells kind (suc a) xs)) (add-one (tracked_before kind i xs)) ∙ h ∙ moved
-    by_own false h = h ∙ moved
+cell_number kind (x ∷ xs) (suc i) a c e t = grind (arith, cell_number kind xs i (suc a) c e t)
 
 pub cells_before_next : (kind : Kind) (cs : List Cell) (i : ℕ) (c : Cell) → slice_get cs i ≡ Some c → tracks kind c.owner ≡ true
     → tracked_before kind (suc i) cs ≡ suc (tracked_before kind i cs)

@@ -383,14 +383,9 @@ module _ (shape : Shape) (cells : List Cell) (h : ShapeFits shape cells) (g : Fa
     ((f.1.0, λ w. any 1 w, λ e. absurd (omega (arith, e))), ((f.1.1.0, λ w. any 2 w, λ e. m), tt)),
   )
     where
-      any : (n : ℕ) → shape.plain ≡ true → is_any_pair (get_or (x ∷ y ∷ z ∷ []) n AnyPair) ≡ true
-      any n w = ap (λ (ps : List PairFact). is_any_pair (get_or ps n AnyPair)) (p w) ∙ usual n
-        where
-          usual : (n : ℕ) → is_any_pair (get_or (AnyPair ∷ AnyPair ∷ AnyPair ∷ []) n AnyPair) ≡ true
-          usual zero = refl
-          usual (suc zero) = refl
-          usual (suc (suc zero)) = refl
-          usual (suc (suc (suc n))) = refl
+      any : (n : ℕ) → shape.plain ≡ true → is_any_pair (get_or (x ∷ y ∷ z ∷ []) n AnyPair)
+          ≡ is_any_pair (get_or (AnyPair ∷ AnyPair ∷ AnyPair ∷ []) n AnyPair)
+      any n w = ap (λ (ps : List PairFact). is_any_pair (get_or ps n AnyPair)) (p w)
 
   pairs_stage : (least : ℕ) → least ≤ 32 → DoneFrom (pairs_facts least (map usual_pair letters_of_pairs))
   pairs_stage least l =

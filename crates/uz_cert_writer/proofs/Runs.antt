@@ -9,40 +9,16 @@ pub first_run : (kind : ℕ) (runs : List (ℕ × ℕ)) → run_on 1 kind runs �
 first_run kind [] = refl
 first_run kind (r ∷ rs) = refl
 
-same : (n : ℕ) → eqb n n ≡ true
-same n = grind (arith, nat_tests)
-
-on_own : (count kind n : ℕ) (rs : List (ℕ × ℕ)) → run_on count kind ((n, kind) ∷ rs) ≡ (n + count, kind) ∷ rs
-on_own count kind n rs = ap (λ t. cond t ((n + count, kind) ∷ rs) ((count, kind) ∷ (n, kind) ∷ rs)) (same kind)
-
-more : (n m kind : ℕ) (rs : List (ℕ × ℕ)) → n ≡ m → (n, kind) ∷ rs ≡ (m, kind) ∷ rs
-more n m kind rs e = ap (λ k. (k, kind) ∷ rs) e
-
 -- one more line of the kind
 pub run_goes_on : (count kind : ℕ) (runs : List (ℕ × ℕ)) → run_on count kind (run_before kind runs) ≡ run_on (count + 1) kind runs
-run_goes_on count kind [] = on_own count kind 1 [] ∙ more (1 + count) (count + 1) kind [] (omega arith)
-run_goes_on count kind (r ∷ rs) = step (eqb r.1 kind)
-  where
-    step : (t : Bool)
-        → run_on count kind (cond t ((r.0 + 1, kind) ∷ rs) ((1, kind) ∷ r ∷ rs))
-        ≡ cond t ((r.0 + (count + 1), kind) ∷ rs) ((count + 1, kind) ∷ r ∷ rs)
-    step true = on_own count kind (r.0 + 1) rs ∙ more (r.0 + 1 + count) (r.0 + (count + 1)) kind rs (omega arith)
-    step false = on_own count kind 1 (r ∷ rs) ∙ more (1 + count) (count + 1) kind (r ∷ rs) (omega arith)
+run_goes_on count kind [] = grind (arith, nat_tests)
+run_goes_on count kind (r ∷ rs) = grind (arith, nat_tests)
 
 -- a line of another kind
 pub run_ends : (count kind next : ℕ) (runs : List (ℕ × ℕ)) → eqb next kind ≡ false
     → run_on count kind (run_before next runs) ≡ (count, kind) ∷ run_before next runs
 run_ends count kind next [] ne = ap (λ t. cond t ((1 + count, kind) ∷ []) ((count, kind) ∷ (1, next) ∷ [])) ne
-run_ends count kind next (r ∷ rs) ne = step (eqb r.1 next)
-  where
-    other : (n : ℕ) (rs : List (ℕ × ℕ)) → run_on count kind ((n, next) ∷ rs) ≡ (count, kind) ∷ (n, next) ∷ rs
-    other n rs = ap (λ t. cond t ((n + count, kind) ∷ rs) ((count, kind) ∷ (n, next) ∷ rs)) ne
-
-    step : (t : Bool)
-        → run_on count kind (cond t ((r.0 + 1, next) ∷ rs) ((1, next) ∷ r ∷ rs))
-        ≡ (count, kind) ∷ cond t ((r.0 + 1, next) ∷ rs) ((1, next) ∷ r ∷ rs)
-    step true = other (r.0 + 1) rs
-    step false = other 1 (r ∷ rs)
+run_ends count kind next (r ∷ rs) ne = grind (arith, nat_tests)
 
 -- the runs of a text with one more line of the kind
 pub run_kept : (text : List ℕ) (count kind next : ℕ) (runs : List (ℕ × ℕ)) → next ≡ kind

@@ -1,4 +1,5 @@
 -- One more word or line at the end of a text.
+use Rattle.std.proofs.lemmas.Bool.Decides.{nat_tests}
 use Rattle.uz_cert_writer.proofs.Common.{◌≡◌, ℕ, ◌+◌, ◌<◌, ◌≤◌, Bool, true, false, cond, List, [], ◌∷◌, ◌++◌, map, drop, get_or, length}
 use Rattle.uz_cert_writer.proofs.Common.{decimal, refl, sym, ◌∙◌, ap, arith, append_assoc, append-nil, Cell, Event, line_of, unless, item}
 use Rattle.uz_cert_writer.proofs.Common.{fact_word, register_items, cell_items, Second, kind_words, event_words, kinds_then, spaced}
@@ -186,12 +187,8 @@ pub lengths_count : (kinds : List (List Event)) (lengths : List ℕ) → lengths
 lengths_count [] lengths h = omega arith
 lengths_count (es ∷ kinds) [] h = absurd cc
 lengths_count (es ∷ kinds) (n ∷ lengths) h =
-    let later = lengths_count kinds lengths (both (is_length n && clocks_below es n) (lengths_fit kinds lengths) h) in
+    let later = lengths_count kinds lengths (grind (arith, nat_tests, h)) in
     omega (arith, later)
-  where
-    both : (a b : Bool) → (a && b) ≡ true → b ≡ true
-    both true b e = e
-    both false b e = absurd cc
 
 -- two lists of words
 pub added_both : (old mid new : List ℕ) (ws vs : List (List ℕ)) → mid ≡ old ++ spaced ws → new ≡ mid ++ spaced vs → new ≡ old
@@ -203,8 +200,7 @@ added_both old mid new ws vs e f =
 pub added_four : (old t1 t2 t3 new a b d e : List ℕ) → t1 ≡ old ++ a → t2 ≡ t1 ++ b → t3 ≡ t2 ++ d → new ≡ t3 ++ e
     → new ≡ old ++ (a ++ (b ++ (d ++ e)))
 added_four old t1 t2 t3 new a b d e f g h i =
-    i ∙ ap (λ t. t ++ e) (h ∙ ap (λ t. t ++ d) (g ∙ ap (λ t. t ++ b) f))
-    ∙ append_assoc ((old ++ a) ++ b) d e ∙ append_assoc (old ++ a) b (d ++ e) ∙ append_assoc old a (b ++ (d ++ e))
+    i ∙ ap (λ t. t ++ e) (h ∙ ap (λ t. t ++ d) (g ∙ ap (λ t. t ++ b) f)) ∙ simp append_assoc
 
 -- lines that are left
 pub lines_left : {A : Type 0} (words : A → List (List ℕ)) (xs : List A) (k : ℕ) (x d : A) → k < length xs → x ≡ get_or xs k d
