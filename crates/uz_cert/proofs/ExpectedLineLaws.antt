@@ -1,9 +1,8 @@
 -- What holds of a draft where a kind of line is due, and where none is.
-use Rattle.uz_cert.proofs.Common.{◌≡◌, ℕ, ◌<◌, ◌≤◌, true, false, cond, eqb, ltb, length, ◌∙◌, ap, arith, Some, None, Entry, lacks}
-use Rattle.uz_cert.proofs.Common.{expected_line, Draft, ◌≢◌, Bool, refl, subst, Option, eqb-true, eqb-false, IsAfterCells, ExpectedLine}
-use Rattle.uz_cert_laws.proofs.Tests.{so as pick, else_so as pass, is_lt as less_true}
-use Rattle.uz_cert.specs.{Kept.IsBody, Drafts.expected_in_schedule, Drafts.expected_in_states}
-use Rattle.std.proofs.{lemmas.Bool.Decides.nat_tests, lemmas.Bool.ltb-true, lemmas.Bool.ltb-false}
+use Rattle.uz_cert.proofs.Common.{◌≡◌, ℕ, ◌<◌, ◌≤◌, true, false, eqb, length, arith, Some, None, Entry, lacks}
+use Rattle.uz_cert.proofs.Common.{expected_line, Draft, ◌≢◌, Bool, refl, Option, IsAfterCells, ExpectedLine}
+use Rattle.uz_cert.specs.{Kept.IsBody}
+use Rattle.std.proofs.{lemmas.Bool.Decides.nat_tests}
 use Rattle.uz_cert.specs.declared.expected_line.ExpectedLine.TheVariants as expected
 
 -- after all runs

@@ -1,20 +1,19 @@
 -- Each line that is within limits where it is due keeps what is read so far within limits.
-use Rattle.std.proofs.lemmas.Bool.Decides.{nat_tests}
-use Rattle.uz_cert.proofs.Common.{◌≡◌, ◌⊎◌, inl, inr, ℕ, zero, suc, ◌+◌, ◌-◌, ◌<◌, ◌≤◌, Bool, true, false, ◌&&◌, eqb, ltb, List, [], ◌∷◌}
-use Rattle.uz_cert.proofs.Common.{◌++◌, length, map, replicate, All, refl, sym, ◌∙◌, ap, subst, arith, length-append, Option, Some, None}
+use Rattle.uz_cert.proofs.Common.{◌≡◌, ◌⊎◌, inl, inr, ℕ, zero, suc, ◌+◌, ◌-◌, ◌<◌, ◌≤◌, Bool, true, false, ◌&&◌, eqb, List, [], ◌∷◌, ◌++◌}
+use Rattle.uz_cert.proofs.Common.{length, map, replicate, All, refl, sym, ◌∙◌, ap, subst, arith, length-append, Option, Some, None}
 use Rattle.uz_cert.proofs.Common.{IfSome, sum_by, eqb-true, eqb-false, map-append, length-replicate, All-nil, All-weaker, clock_limit}
 use Rattle.uz_cert.proofs.Common.{is_length, clocks_below, lengths_fit, EventFits, EventsFit, scanline, StackFits, CellFits, RestFits}
 use Rattle.uz_cert.proofs.Common.{EntryFits, PointFits, instances_of, Cell, Head, Event, Rest, Entry, Point, Sizes, ParsedLine, KindLine}
-use Rattle.uz_cert.proofs.Common.{Version, First, Second, Third, and_true, first_draft, lacks, expected_line, draft_after, expected_as}
-use Rattle.uz_cert.proofs.Common.{SizesFit, IsLengthIn, IsPointIn, rules_of, length_few, LastIs, Kept, IsAfterCells, EventSaid, SaidFits}
-use Rattle.uz_cert.proofs.Common.{Draft, with_said, true_not, Response}
-use Rattle.std.proofs.lemmas.List.Elements.{All-push, All-append, All-replicate}
+use Rattle.uz_cert.proofs.Common.{Version, First, Second, Third, first_draft, lacks, expected_line, draft_after, expected_as, SizesFit}
+use Rattle.uz_cert.proofs.Common.{IsLengthIn, IsPointIn, rules_of, length_few, LastIs, Kept, IsAfterCells, EventSaid, SaidFits, Draft}
+use Rattle.uz_cert.proofs.Common.{with_said, true_not, Response}
+use Rattle.uz_cert.specs.Kept.{CellsKept, KindsKept, RestsKept, PointsKept, ScheduleKept, StatesKept, AreCellsDue, LateLater, CellSaid}
+use Rattle.uz_cert.specs.Kept.{KindSaid, RunSaid, RestSaid, EntrySaid, PointSaid}
+use Rattle.std.proofs.{lemmas.Bool.Decides.nat_tests, lemmas.List.Elements.All-push, lemmas.List.Elements.All-append}
+use Rattle.std.proofs.{lemmas.List.Elements.All-replicate, Common.◌*◌, lemmas.Nat.mul-le, lemmas.List.Sums.sum_by_push}
 use Rattle.uz_schedule.specs.Limits.{most_events, rises}
 use Rattle.uz_cert.proofs.ExpectedLineLaws.{IsExpected, is_expected}
 use Rattle.uz_cert_laws.specs.LineWords.{least_after}
-use Rattle.uz_cert.specs.Kept.{CellsKept, KindsKept, RestsKept, PointsKept, ScheduleKept, StatesKept, AreCellsDue, LateLater, CellSaid}
-use Rattle.uz_cert.specs.Kept.{KindSaid, RunSaid, RestSaid, EntrySaid, PointSaid}
-use Rattle.std.proofs.{Common.◌*◌, lemmas.Nat.mul-le, lemmas.Bool.le-leb, lemmas.List.Sums.sum_by_push}
 use Rattle.uz_cert_laws.proofs.{Tests.both_true, GrowingFacts.rises_more, GrowingFacts.after_more}
 use Rattle.uz_cert_lines.specs.declared.lines.ParsedLine.TheVariants as parsed
 use Rattle.uz_cert.specs.declared.expected_line.ExpectedLine.TheVariants as expected

@@ -1,9 +1,8 @@
 -- The lines of a frame as runs of one kind, and back.
-use Rattle.std.proofs.lemmas.Bool.Decides.{nat_tests}
 use Rattle.uz_cert.proofs.Common.{◌≡◌, ◌≢◌, ℕ, zero, suc, ◌+◌, ◌<◌, ◌≤◌, Bool, true, false, cond, eqb, List, [], ◌∷◌, ◌++◌, replicate}
 use Rattle.uz_cert.proofs.Common.{All, refl, sym, ◌∙◌, ap, subst, append-nil, arith, ⊤, eqb-true, eqb-false, not_number, All-nil}
 use Rattle.uz_cert.proofs.Common.{All-cons, All-head, All-tail, runs_of, LastIs}
-use Rattle.std.proofs.Common.{add-one}
+use Rattle.std.proofs.{lemmas.Bool.Decides.nat_tests, Common.add-one}
 use Rattle.uz_cert_laws.proofs.Tests.{same_number}
 use Rattle.uz_cert_writer.specs.Spelling.{run_before}
 use Rattle.uz_cert.proofs.SpelledText.{expand, Apart}

@@ -1,20 +1,18 @@
 -- A text is read as each well formed certificate: section by section, from the last line to the first.
-use Rattle.std.proofs.lemmas.Bool.Decides.{nat_tests}
-use Rattle.uz_cert.proofs.Common.{◌≡◌, ◌≢◌, ℕ, suc, ◌+◌, ◌-◌, ◌<◌, ◌≤◌, true, false, ◌&&◌, eqb, List, [], ◌∷◌, ◌++◌, length, map}
-use Rattle.uz_cert.proofs.Common.{replicate, All, ltb, zero-add, refl, sym, ◌∙◌, ap, subst, append_assoc, append-nil, arith}
-use Rattle.uz_cert.proofs.Common.{length-append, Some, None, Ok, ⊤, sum_by, length-replicate, All-head, All-tail, All-weaker, scanline}
-use Rattle.uz_cert.proofs.Common.{clock_limit, is_length, clocks_below, lengths_fit, EventFits, EventsFit, CellFits, RestFits, EntryFits}
-use Rattle.uz_cert.proofs.Common.{PointFits, instances_of, Cell, Head, Event, Rest, Entry, Point, Cert, line_of, ◌>>=◌, reads, IsLengthIn}
-use Rattle.uz_cert.proofs.Common.{IsPointIn, KindLine, ParsedLine, Version, expected_line, form_of, draft_after, Kept, SaidFits}
-use Rattle.uz_cert.proofs.Common.{expected_as, said_words, line, is_more, words_in, line_says, or_fault, cert_from, read_by, read_from}
-use Rattle.uz_cert.proofs.Common.{ExpectedLine, Draft, and_true}
-use Rattle.uz_schedule.specs.Limits.{rises_from}
-use Rattle.uz_cert.proofs.KeptLaws.{next_of, kept_next, same_cell}
+use Rattle.uz_cert.proofs.Common.{◌≡◌, ◌≢◌, ℕ, ◌+◌, ◌-◌, ◌<◌, ◌≤◌, true, false, ◌&&◌, eqb, List, [], ◌∷◌, ◌++◌, length, map, replicate}
+use Rattle.uz_cert.proofs.Common.{All, ltb, zero-add, refl, sym, ◌∙◌, ap, subst, append_assoc, append-nil, arith, length-append, Some}
+use Rattle.uz_cert.proofs.Common.{None, Ok, ⊤, sum_by, length-replicate, All-head, All-tail, All-weaker, scanline, clock_limit, is_length}
+use Rattle.uz_cert.proofs.Common.{clocks_below, lengths_fit, EventFits, EventsFit, CellFits, RestFits, EntryFits, PointFits, instances_of}
+use Rattle.uz_cert.proofs.Common.{Cell, Head, Event, Rest, Entry, Point, Cert, line_of, reads, IsLengthIn, IsPointIn, KindLine}
+use Rattle.uz_cert.proofs.Common.{ParsedLine, Version, expected_line, form_of, draft_after, Kept, SaidFits, expected_as, said_words}
+use Rattle.uz_cert.proofs.Common.{is_more, line_says, or_fault, cert_from, read_by, read_from, Draft, and_true}
 use Rattle.uz_cert.proofs.ExpectedLineLaws.{PastCells, PastKinds, PastFall, PastRuns, PastRests, PastEntry, PastPoints, due_cell}
 use Rattle.uz_cert.proofs.ExpectedLineLaws.{due_event, due_kind, due_fall, due_run, due_rest, due_entry, due_point, due_end, due_none}
 use Rattle.uz_cert.proofs.ExpectedLineLaws.{equal, not_equal}
-use Rattle.uz_cert.proofs.{Lines.LineSpelling, Lines.line_cut, TextLaws.told, TextLaws.whole_read, TextLaws.line_said}
-use Rattle.std.proofs.{Common.leb, lemmas.Bool.leb-true, lemmas.List.Sums.sum_by-cons}
+use Rattle.std.proofs.{lemmas.Bool.Decides.nat_tests, Common.leb, lemmas.Bool.leb-true, lemmas.List.Sums.sum_by-cons}
+use Rattle.uz_schedule.specs.Limits.{rises_from}
+use Rattle.uz_cert.proofs.{KeptLaws.next_of, KeptLaws.kept_next, KeptLaws.same_cell, Lines.LineSpelling, Lines.line_cut, TextLaws.told}
+use Rattle.uz_cert.proofs.{TextLaws.whole_read, TextLaws.line_said}
 use Rattle.uz_cert_lines.specs.declared.lines.ParsedLine.TheVariants as parsed
 
 abbrev pub spelled : Version → Head → ParsedLine → List ℕ
@@ -62,8 +60,9 @@ points_again l d e (x ∷ xs) k b p o count fits own sum =
     let cells : d.sizes.cells ≡ length d.head.cells.items = p.0.0.0.0.0 in
     let room : length d.points < d.sizes.points = omega (arith, count) in
     let split = sum_by-cons instances_of x xs in
-    let fit : SaidFits d (parsed.Point x) = grind (arith, b, cells, room, sum, split,
-    All-head (PointFits d.head d.sizes.lines d.sizes.points) x xs fits, All-head (IsPointIn d.version) x xs own) in
+    let first = All-head (PointFits d.head d.sizes.lines d.sizes.points) x xs fits in
+    let first_own = All-head (IsPointIn d.version) x xs own in
+    let fit : SaidFits d (parsed.Point x) = grind (arith, b, cells, room, sum, split, first, first_own) in
     let is = due_point d e b p room in
     let next = next_of d (parsed.Point x) in
     step l d (parsed.Point x) (cert_from (record d { points = d.points ++ x ∷ xs }) e) k is fit
@@ -108,8 +107,8 @@ rests_again l d (r ∷ rs) e ps k b p s =
     let cells : d.sizes.cells ≡ length d.head.cells.items = p.0.0.0 in
     let room : length d.rests < d.sizes.rests = omega (arith, count) in
     let order = and_true (leb d.rest_least r.line) (rises_from (r.line + 1) (map (λ x. x.line) rs)) s.0.2 in
-    let fit : SaidFits d (parsed.Rest r) = grind (arith, b, cells, room, leb-true d.rest_least r.line order.0,
-    All-head (RestFits d.head d.sizes.lines d.sizes.points) r rs s.0.1) in
+    let first = All-head (RestFits d.head d.sizes.lines d.sizes.points) r rs s.0.1 in
+    let fit : SaidFits d (parsed.Rest r) = grind (arith, b, cells, room, leb-true d.rest_least r.line order.0, first) in
     let is = due_rest d b p room in
     let next = next_of d (parsed.Rest r) in
     step l d (parsed.Rest r) (cert_from (record d { rests = d.rests ++ r ∷ rs; points = ps }) e) k is fit

@@ -1,5 +1,4 @@
 -- What reading gives is what the relation over all lines says, both ways.
-use Rattle.uz_cert_lines.specs.FirstFault.{ItemsSay}
 use Rattle.uz_cert.proofs.Common.{◌≡◌, ℕ, Bool, true, false, cond, List, [], ◌∷◌, refl, sym, ◌∙◌, ap, Ok, Cell, ◌>>=◌, Words, reads}
 use Rattle.uz_cert.proofs.Common.{ParsedLine, true_not, ◌≢◌, ◌⊎◌, inl, inr, suc, ◌+◌, ◌≤◌, ◌++◌, length, bytes_eq, subst, arith, Option}
 use Rattle.uz_cert.proofs.Common.{Some, None, Result, Err, IfOk, IfErr, Entry, Cert, head_line, Version, First, Second, Third, CertWhy}
@@ -7,11 +6,10 @@ use Rattle.uz_cert.proofs.Common.{first_draft, lacks, expected_line, form_of, dr
 use Rattle.uz_cert.proofs.Common.{words_in, line_says, or_fault, cert_from, cert_with, cert_before, read_by, read_from, read_pieces}
 use Rattle.uz_cert.proofs.Common.{cert_of_text, IsCertificateText, IsFirstFault, ExpectedLine, Draft, CertError}
 use Rattle.uz_cert_lines.specs.Forms.{LineForm, with_span, spans_of, fixed, number, choice, slope, spans, items, finish}
-use Rattle.uz_cert_laws.proofs.Tests.{bind_ok, fine_is, word_is, same_word, fine}
-use Rattle.uz_cert_lines.specs.Grammar.{rest_of, next_as, fixed_of, number_of, choice_of, slope_of, end_of}
 use Rattle.uz_cert.specs.Texts.{Adds, Reaches, SpellsCertificate, HeadFails, LineFails, FailsAtHead, FailsLater}
-use Rattle.uz_cert_lines.specs.{Values.span_of, declared.items.Shape.Shape, declared.items.Facts.Facts, FirstFault.Allows}
-use Rattle.uz_cert_lines.specs.{FirstFault.HasFirstFault, Items.first_facts, Items.take_item, Items.items_from, Items.read_items}
+use Rattle.uz_cert_lines.specs.{FirstFault.ItemsSay, FirstFault.Allows, FirstFault.HasFirstFault, Grammar.rest_of, Grammar.next_as}
+use Rattle.uz_cert_lines.specs.{Grammar.end_of, Values.span_of, declared.items.Shape.Shape, declared.items.Facts.Facts, Items.first_facts}
+use Rattle.uz_cert_laws.proofs.Tests.{bind_ok, fine_is, word_is, same_word, fine}
 use Rattle.uz_schedule.specs.{Ends.Ends, Tracked.tracks, declared.kinds.Kind.TheVariants.Handler}
 use Rattle.uz_cert.proofs.{Pieces.some_piece, ExpectedLineLaws.is_whole}
 use Rattle.uz_cert_lines.specs.declared.why.CertWhy.TheVariants as why
@@ -311,23 +309,12 @@ decide l v (line ∷ rest) more = by_head (bytes_eq line (head_line v)) refl res
       )
     ]
 
+    at_head : (others : List (List ℕ)) (w : CertWhy) → HeadFails v line others w → Decided v (line ∷ others)
+    at_head others w f = inr (1, w, inl (record { line = line; rest = others; parts = refl; number = refl; fails = f }))
+
     by_head : (t : Bool) → bytes_eq line (head_line v) ≡ t → (others : List (List ℕ)) → Decided v (line ∷ others)
-    by_head false is others =
-        inr (1, why.Head, inl (record {
-          line = line;
-          rest = others;
-          parts = refl;
-          number = refl;
-          fails = inl ((test_head v line).1 is, refl);
-        }))
-    by_head true is [] =
-        inr (1, why.NoEnd, inl (record {
-          line = line;
-          rest = [];
-          parts = refl;
-          number = refl;
-          fails = inr ((test_head v line).0 is, refl, refl);
-        }))
+    by_head false is others = at_head others why.Head (inl ((test_head v line).1 is, refl))
+    by_head true is [] = at_head [] why.NoEnd (inr ((test_head v line).0 is, refl, refl))
     by_head true is (piece ∷ others) =
         subst (λ x. Decided v (x ∷ piece ∷ others)) (sym ((test_head v line).0 is))
         (of_rest (piece ∷ others) (stops l (first_draft v) (piece ∷ others) (omega arith) refl))

@@ -56,8 +56,8 @@ stack_of h = record { lo = h.lo; hi = h.hi; main = h.main; handler = h.handler }
 
 sizes_fit : (c : Cert) → WellFormed c → SizesFit (sizes_of c)
 sizes_fit c w =
-    grind (arith, w.schedule.kinds.some, w.schedule.kinds.few, w.schedule.lines.some, w.schedule.lines.few, w.rests.few, w.points.some,
-    w.points.few, w.head.few)
+    let s = w.schedule in
+    grind (arith, s.kinds.some, s.kinds.few, s.lines.some, s.lines.few, w.rests.few, w.points.some, w.points.few, w.head.few)
 
 -- after the opening
 middle_again : (l : LineSpelling) (v : Version) (c : Cert) → WellFormed c → IsOfVersion v c

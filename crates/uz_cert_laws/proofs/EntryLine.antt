@@ -1,7 +1,7 @@
 -- The line of an entry.
-use Rattle.uz_cert_laws.proofs.Common.{Shape, nat_tests, All-weaker, ◌≡◌, ℕ, zero, suc, ◌<◌, ◌≤◌, Bool, true, false, cond, ◌&&◌, eqb}
+use Rattle.uz_cert_laws.proofs.Common.{Shape, nat_tests, All-weaker, ◌≡◌, ℕ, zero, suc, ◌<◌, ◌≤◌, Bool, true, false, ◌&&◌}
 use Rattle.uz_cert_laws.proofs.Common.{List, [], ◌∷◌, ◌++◌, map, length, decimal, codes, lit≤, refl, sym, ◌∙◌, ap, subst, append-nil}
-use Rattle.uz_cert_laws.proofs.Common.{arith, Ok, All-nil, All-cons, All-head, All-tail, Ends, clock_limit, RangeFits, CellFits, BitFits}
+use Rattle.uz_cert_laws.proofs.Common.{arith, Ok, All-nil, Ends, clock_limit, RangeFits, CellFits, BitFits}
 use Rattle.uz_cert_laws.proofs.Common.{Kind, Main, Handler, Alone, Cell, Head, Fact, Words, choice_of, range_fact, is_handler}
 use Rattle.uz_cert_laws.proofs.Common.{bytes_forms, LineForm, number, items, reads, within, one_of, none_in_main, span_of_fact, FactForms}
 use Rattle.uz_cert_laws.proofs.Common.{Facts, ParsedLine, kind_word, register_items, pair_items, flag_items, slot_items, cell_items}

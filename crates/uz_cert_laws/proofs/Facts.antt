@@ -1,15 +1,14 @@
 -- The words of ranges, facts, pairs and flags: read as they are spelled, and only so.
 use Rattle.uz_cert_laws.proofs.Common.{Main, Handler, Alone, is_handler, BitFits, ◌+◌, pair_forms, PairFits, Kind, ◌≡◌, ℕ, ◌<◌, ◌≤◌, ◌≢◌}
-use Rattle.uz_cert_laws.proofs.Common.{◌^◌, Bool, true, false, cond, ◌&&◌, eqb, ltb, List, [], ◌∷◌, ◌++◌, decimal, codes, bytes_eq, lit<}
-use Rattle.uz_cert_laws.proofs.Common.{lit≤, refl, sym, ◌∙◌, ap, subst, arith, append_assoc, Option, Some, None, Result, Ok, Err, cut_at}
+use Rattle.uz_cert_laws.proofs.Common.{◌^◌, Bool, true, false, cond, ◌&&◌, eqb, List, [], ◌∷◌, ◌++◌, decimal, codes, bytes_eq, lit<, lit≤}
+use Rattle.uz_cert_laws.proofs.Common.{refl, sym, ◌∙◌, ap, subst, arith, append_assoc, Option, Some, None, Result, Ok, Err, cut_at}
 use Rattle.uz_cert_laws.proofs.Common.{cut_read, cut_again, ◌>>=◌, one_number, two_numbers, range, raw_of, FactForms, Raw, CertWhy}
-use Rattle.uz_cert_laws.proofs.Common.{slope_word, ◌⊎◌, inl, inr, zero, suc, not, leb, nat_tests, Ends, is_within, RangeFits, Fact, Any}
-use Rattle.uz_cert_laws.proofs.Common.{Between, Line, Loop, Old, OldFlags, PairFact, Bit, Zero, One, Free, ends, fact_of, pair_of}
-use Rattle.uz_cert_laws.proofs.Common.{ends_of, bit_of, span_of, range_word, ends_word, fact_word, pair_word, flag_word, AnyPair}
-use Rattle.uz_cert_laws.proofs.Common.{BetweenPair, LinePair, LoopPair, OldBit, temp_forms}
-use Rattle.uz_cert_laws.proofs.Tests.{refuted, given, tested, and_true, both_true, fine, fine_is, passed, so, else_so, bind_ok, then}
-use Rattle.uz_cert_laws.proofs.Tests.{lt_is, is_lt, number_is, not_number, word_is, and_false, not_true, fault_not, le_is, is_le}
-use Rattle.uz_cert_laws.proofs.Tests.{number_not, same_number}
+use Rattle.uz_cert_laws.proofs.Common.{slope_word, ◌⊎◌, inl, inr, leb, nat_tests, Ends, is_within, RangeFits, Fact, Any, Between, Line}
+use Rattle.uz_cert_laws.proofs.Common.{Loop, Old, OldFlags, PairFact, Bit, Zero, One, Free, ends, fact_of, pair_of, ends_of, bit_of}
+use Rattle.uz_cert_laws.proofs.Common.{span_of, range_word, ends_word, fact_word, pair_word, flag_word, AnyPair, BetweenPair, LinePair}
+use Rattle.uz_cert_laws.proofs.Common.{LoopPair, OldBit, temp_forms}
+use Rattle.uz_cert_laws.proofs.Tests.{refuted, given, tested, and_true, fine, fine_is, passed, so, else_so, bind_ok, then, number_is}
+use Rattle.uz_cert_laws.proofs.Tests.{word_is, fault_not, le_is, number_not}
 use Rattle.uz_cert_lines.specs.Values.{whole, slope, sloped_parts, sloped_cut, sloped, old, range_parts, range_cut, is_ordered}
 use Rattle.uz_cert_lines.specs.Values.{span_forms}
 use Rattle.uz_cert_laws.proofs.Numbers.{one_only, one_so, two_only, two_so, first_digit, decimal_lacks_below, cut_none}

@@ -4,7 +4,7 @@ use Rattle.uz_cert_laws.proofs.Common.{cond, not, ◌&&◌, eqb, leb, List, [], 
 use Rattle.uz_cert_laws.proofs.Common.{subst, arith, All-nil, All-cons, All-head, All-tail, Ends, is_within, tracks, RangeFits, FactFits}
 use Rattle.uz_cert_laws.proofs.Common.{spans_fit, Kind, Main, Handler, Alone, Cell, Fact, Any, Between, Line, Loop, Old, OldFlags}
 use Rattle.uz_cert_laws.proofs.Common.{range_fact, is_handler, bytes_forms, none_in_main, span_of_fact, FactForms, Shape, All}
-use Rattle.uz_cert_laws.proofs.Tests.{and_true, both_true, true_not, le_is, is_le, else_so, number_is, not_le}
+use Rattle.uz_cert_laws.proofs.Tests.{and_true, both_true, true_not, le_is, else_so, not_le}
 use Rattle.uz_cert_laws.proofs.Facts.{FactIn, handler_is, part_from, part_not_whole, whole_ends}
 use Rattle.uz_schedule.specs.WellFormed.{CellFactFits}
 use Rattle.uz_cert_laws.proofs.{ItemForms.cell_form, Spelled.numbered_cells, Sections.Each, Sections.each_length, Sections.each_other}

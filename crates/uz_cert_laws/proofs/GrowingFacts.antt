@@ -1,5 +1,5 @@
 -- Facts as they grow while items are read: what is spelled of them is what was read.
-use Rattle.uz_cert_laws.proofs.Common.{nat_tests, ◌≡◌, ℕ, suc, ◌+◌, ◌-◌, ◌<◌, ◌≤◌, true, leb, List, [], ◌∷◌, ◌++◌, map, length, decimal}
+use Rattle.uz_cert_laws.proofs.Common.{nat_tests, ◌≡◌, ℕ, suc, ◌+◌, ◌-◌, ◌<◌, ◌≤◌, true, List, [], ◌∷◌, ◌++◌, map, length, decimal}
 use Rattle.uz_cert_laws.proofs.Common.{codes, lit≤, refl, sym, ◌∙◌, ap, subst, add-one, length-append, arith, slice_set, rises_from}
 use Rattle.uz_cert_laws.proofs.Common.{rises, Cell, Fact, PairFits, BitFits, PairFact, Bit, is_default, bytes_forms, tracked_before}
 use Rattle.uz_cert_laws.proofs.Common.{Shape, Facts, register_item, pair_item, flag_item, fact_word, register_items, pair_items}
@@ -17,7 +17,7 @@ use Rattle.uz_cert_laws.proofs.Sections.{OptionList, AreOptions}
 use Rattle.uz_cert_laws.proofs.Named.{listed_section, listed_is, SetsOne, sets_between, sets_more}
 use Rattle.std.specs.Prelude.{IsTrue}
 use Rattle.uz_cert_laws.specs.LineWords.{least_after}
-use Rattle.uz_cert_laws.proofs.{Facts.FactIn, Tests.both_of, Tests.and_true, Tests.both_true, Tests.is_le, Tests.true_not}
+use Rattle.uz_cert_laws.proofs.{Facts.FactIn, Tests.both_of, Tests.true_not}
 use Rattle.std.proofs.{lemmas.List.map-append, lemmas.List.Elements.All-push, lemmas.Option.slice_get-get_or}
 
 -- numbers that rise

@@ -1,17 +1,16 @@
 -- The lines of sizes, response, stack and cells.
-use Rattle.uz_cert_laws.proofs.Common.{nat_tests, ◌≡◌, ◌⊎◌, inl, inr, ℕ, zero, suc, ◌+◌, ◌-◌, ◌<◌, ◌≤◌, ◌≢◌, eqb, Bool, true, false, cond}
-use Rattle.uz_cert_laws.proofs.Common.{List, [], ◌∷◌, decimal, codes, lit<, lit≤, refl, sym, ◌∙◌, ap, arith, Ok, CellFits, Head, Cell}
-use Rattle.uz_cert_laws.proofs.Common.{Words, choice_of, ends, reads, least_of, ParsedLine, line, word_at}
+use Rattle.uz_cert_laws.proofs.Common.{nat_tests, ◌≡◌, ◌⊎◌, ℕ, zero, suc, ◌+◌, ◌-◌, ◌<◌, ◌≤◌, List, [], ◌∷◌, decimal, codes, lit<, lit≤}
+use Rattle.uz_cert_laws.proofs.Common.{refl, sym, ◌∙◌, ap, arith, Ok, CellFits, Head, Cell, Words, choice_of, ends, reads, least_of}
+use Rattle.uz_cert_laws.proofs.Common.{ParsedLine, line, word_at}
 use Rattle.uz_schedule.specs.declared.kinds.Owner.TheVariants.{Main as MainCell, Handler as HandlerCell}
 use Rattle.uz_cert_lines.specs.Lines.{SizesFit, size_form, irq_form, response_of, stack_form, owner_of, off_stack, cell_form}
 use Rattle.uz_cert_laws.specs.LineWords.{sizes_words, response_words, stack_line_words, with_stack}
-use Rattle.uz_cert_laws.proofs.Numbers.{apart, is_within, under_both, both_under, least_small, IsWithin}
+use Rattle.uz_cert_laws.proofs.Numbers.{is_within, under_both, both_under, least_small, IsWithin}
 use Rattle.uz_schedule.specs.{declared.kinds.Response.Response, declared.kinds.Response.TheVariants.Four}
 use Rattle.uz_schedule.specs.{declared.kinds.Response.TheVariants.Five, WellFormed.StackFits, Schedule.response_clocks}
 use Rattle.uz_schedule.specs.{declared.kinds.Owner.Owner}
 use Rattle.uz_cert_writer.specs.Spelling.{owner_word, cell_words}
-use Rattle.uz_cert_laws.proofs.FormLaws.{IsReadable, form_again, form_only}
-use Rattle.uz_cert_laws.proofs.Tests.{both_of, fine, number_is, number_not}
+use Rattle.uz_cert_laws.proofs.{FormLaws.IsReadable, FormLaws.form_again, FormLaws.form_only, Tests.both_of, Tests.fine}
 use Rattle.uz_cert_lines.specs.{declared.lines.Sizes.Sizes, declared.lines.StackLine.StackLine}
 use Rattle.uz_cert_lines.specs.declared.lines.ParsedLine.TheVariants as parsed
 

@@ -11,9 +11,9 @@ use Rattle.uz_cert_lines.specs.Items.{register_set, register_key, take_register,
 use Rattle.uz_cert_lines.specs.Items.{slot_room, take_slot, with_number, cell_at, cell_forms, numbered, cell_set, cell_value, take_cell}
 use Rattle.uz_cert_lines.specs.Items.{successor_set, take_successor, take_letter, take_cut, take_second, take_named, take_named_value}
 use Rattle.uz_cert_lines.specs.Items.{take_keyed}
-use Rattle.uz_cert_laws.proofs.Tests.{fine, some_not, not_number, so, else_so, then, is_le, is_lt, tested, or_false, fine_is, fault_not}
+use Rattle.uz_cert_laws.proofs.Tests.{fine, some_not, so, else_so, tested, or_false, fine_is, fault_not}
 use Rattle.uz_cert_laws.proofs.Tests.{passed, failed, bind_ok, le_is, lt_is, number_is}
-use Rattle.uz_cert_laws.proofs.Named.{order_so, is_name, IsName, letters, order_is, SetsOne, listed_taken, listed_takes}
+use Rattle.uz_cert_laws.proofs.Named.{is_name, letters, order_is, SetsOne, listed_taken, listed_takes}
 use Rattle.uz_cert_laws.proofs.Facts.{fact_so, pair_so, bit_so, FactIn, fact_only, pair_only, bit_only}
 use Rattle.uz_hex.proofs.Plain.{decimal_lacks_above}
 use Rattle.uz_cert_laws.proofs.Numbers.{lacks_is, digits_so, numeral_so}

@@ -6,8 +6,8 @@ use Rattle.uz_cert_laws.proofs.Common.{append_assoc, arith, ⊤, Ok, Err, plain,
 use Rattle.uz_cert_laws.proofs.Common.{any_names, ValueForm, a_number, a_range, a_comparison, a_register, ValueOf, is_usual, NamedItem}
 use Rattle.uz_cert_laws.proofs.Common.{named_items, named_place, NamedValues, Shape, Facts, item, unless, range_word, value_word}
 use Rattle.uz_cert_laws.proofs.Common.{value_item, value_items, listed_items, temp_forms, ComparedFits, SplitFits}
-use Rattle.uz_cert_laws.proofs.Tests.{and_true, both_true, neither, not_true, true_not, refuted, fine, fine_is, fault_not, passed, so}
-use Rattle.uz_cert_laws.proofs.Tests.{else_so, tested, bind_ok, then, le_is, is_le, lt_is, number_is, same_number, word_is, same_word}
+use Rattle.uz_cert_laws.proofs.Tests.{and_true, neither, not_true, true_not, refuted, fine, fine_is, fault_not, passed, so}
+use Rattle.uz_cert_laws.proofs.Tests.{else_so, tested, bind_ok, then, le_is, number_is, same_number, word_is, same_word}
 use Rattle.uz_cert_laws.proofs.Comparisons.{comparison_only, comparison_so, nothing_is, split_only, split_so, none_is}
 use Rattle.uz_cert_laws.proofs.{Facts.temp_only, Facts.temp_so, Facts.whole_ends, Facts.part_from, Sections.Section, Sections.IsSection}
 use Rattle.uz_cert_laws.proofs.{Numbers.one_only, Numbers.one_so, Numbers.lacks}

@@ -1,13 +1,12 @@
 -- Numbers as words of a line, within the limits of their place, and other words that are due: read as they are written, and only so.
 use Rattle.uz_cert_laws.proofs.Common.{◌≡◌, inr, ℕ, zero, suc, ◌+◌, ◌<◌, ◌≤◌, ◌≢◌, ◌^◌, Bool, true, false, cond, List, [], ◌∷◌, bytes_eq}
-use Rattle.uz_cert_laws.proofs.Common.{ltb, refl, sym, ◌∙◌, ap, arith, Some, Ok, Err, slice_get, Words, fixed_of, choice_of, within}
-use Rattle.uz_cert_laws.proofs.Common.{one_of, least_of, line, word_at, ◌⊎◌, inl, not, ◌&&◌, eqb, leb, length, decimal, lit≤, add-one}
-use Rattle.uz_cert_laws.proofs.Common.{subst, Option, None, nat_tests, is_numeral, number_below, cut_at, number_read, number_again, Lacks}
-use Rattle.uz_cert_laws.proofs.Common.{lacks_cons, All-cons, All-head, All-tail, magnitude, number_of, slope_of, digits, one_number}
-use Rattle.uz_cert_laws.proofs.Common.{two_numbers, signed_word, ℤ, pos, negsuc}
-use Rattle.uz_cert_laws.proofs.Tests.{fine_is, fault_not, passed, so, word_is, same_word, lt_is, not_lt, some_not, and_true, both_true}
-use Rattle.uz_cert_laws.proofs.Tests.{and_false, not_true, failed, else_so, le_is, is_le, is_lt, not_le, number_not, not_number}
-use Rattle.uz_cert_laws.proofs.Tests.{number_is}
+use Rattle.uz_cert_laws.proofs.Common.{refl, sym, ◌∙◌, ap, arith, Some, Ok, Err, slice_get, Words, fixed_of, choice_of, within, one_of}
+use Rattle.uz_cert_laws.proofs.Common.{least_of, line, word_at, ◌⊎◌, not, ◌&&◌, eqb, leb, length, decimal, lit≤, add-one, subst, Option}
+use Rattle.uz_cert_laws.proofs.Common.{None, nat_tests, is_numeral, number_below, cut_at, number_read, number_again, Lacks, lacks_cons}
+use Rattle.uz_cert_laws.proofs.Common.{All-cons, All-head, All-tail, magnitude, number_of, slope_of, digits, one_number, two_numbers}
+use Rattle.uz_cert_laws.proofs.Common.{signed_word, ℤ, pos, negsuc}
+use Rattle.uz_cert_laws.proofs.Tests.{fine_is, fault_not, passed, so, word_is, same_word, some_not, and_true, not_true, failed, else_so}
+use Rattle.uz_cert_laws.proofs.Tests.{le_is, not_number, number_is}
 use Rattle.uz_cert_lines.specs.Grammar.{choice_from, asked, number_or, signed_or, unsigned_or}
 use Rattle.std.proofs.lemmas.Fmt.{decimal_nonempty}
 use Rattle.uz_cert_lines.specs.{Lines.rising, Values.one_or, Values.both, declared.words.NumberBounds.NumberBounds}

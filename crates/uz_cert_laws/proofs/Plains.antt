@@ -13,7 +13,7 @@ use Rattle.uz_cert_writer.specs.Spelling.{line_of}
 use Rattle.std.specs.{List.slice_split, List.onto_first, List.join_with_byte, Prelude.ℤ, Prelude.pos, Prelude.negsuc, Fmt.digits}
 use Rattle.std.specs.{Fmt.digits_onto, Fmt.digit_glyph}
 use Rattle.uz_cert_laws.proofs.{Spelled.numbered_cells, Spelled.cells_are, Spelled.in_range, Spelled.cell_word, Tests.and_true}
-use Rattle.uz_cert_laws.proofs.{Tests.both_true, Tests.is_lt, Named.name_plain, Named.is_table, Named.table}
+use Rattle.uz_cert_laws.proofs.{Tests.both_true, Named.name_plain, Named.is_table, Named.table}
 use Rattle.std.proofs.{Common.◌%◌, lemmas.List.Splits.join_with_byte-slice_split}
 use Rattle.uz_schedule.specs.declared.facts.Compared.TheVariants as told
 use Rattle.uz_schedule.specs.declared.facts.Fact.TheVariants as fact

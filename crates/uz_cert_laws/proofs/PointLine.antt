@@ -1,14 +1,13 @@
 -- The line of a point.
 use Rattle.uz_cert_laws.proofs.Common.{nat_tests, All-weaker, ◌≡◌, ℕ, zero, suc, ◌+◌, ◌-◌, ◌*◌, ◌/◌, ◌<◌, ◌≤◌, ◌^◌, Bool, true, false}
-use Rattle.uz_cert_laws.proofs.Common.{◌&&◌, ◌||◌, eqb, List, [], ◌∷◌, decimal, codes, get_or, lit<, lit≤, refl, sym, ◌∙◌, ap, subst}
-use Rattle.uz_cert_laws.proofs.Common.{arith, Ok, decimal_digit, clock_limit, scanline, RangeFits, FactFits, PairFits, BitFits, magnitude}
+use Rattle.uz_cert_laws.proofs.Common.{◌&&◌, eqb, List, [], ◌∷◌, decimal, codes, get_or, lit<, lit≤, refl, sym, ◌∙◌, ap, subst, arith, Ok}
+use Rattle.uz_cert_laws.proofs.Common.{decimal_digit, clock_limit, scanline, RangeFits, FactFits, PairFits, BitFits, magnitude}
 use Rattle.uz_cert_laws.proofs.Common.{is_zero_or_one, is_carry_and_zero_default, Kind, Main, Handler, Alone, Head, Words, choice_of}
 use Rattle.uz_cert_laws.proofs.Common.{is_handler, bytes_forms, reads, none_in_main, Facts, ParsedLine, Version, First, Second, Third}
 use Rattle.uz_cert_laws.proofs.Common.{kind_word, Option, None, signed_word, named_items, named_of, with_named, usual_facts, Shape, ℤ}
 use Rattle.uz_cert_laws.proofs.Common.{pos, negsuc, ComparedFits, SplitFits, Compared, AnyPair, line, PlacesAre, word_at, Parts, says}
 use Rattle.uz_cert_laws.proofs.Common.{spells, letters_of_pairs, letters_of_flags, spelled}
-use Rattle.uz_schedule.specs.WellFormed.{CoreFits, MemoryFits, PointFits, PointKindFits, IsAtBegin, IsTimerLeftOut, instances_of}
-use Rattle.uz_schedule.specs.WellFormed.{IsWithoutRules, RulesFit}
+use Rattle.uz_schedule.specs.WellFormed.{PointFits, PointKindFits, IsAtBegin, IsTimerLeftOut, instances_of, IsWithoutRules, RulesFit}
 use Rattle.uz_cert_lines.specs.Lines.{is_timed, is_compared, point_shape, IsPointIn, point_kind, pending_limit, count_limit, point_after}
 use Rattle.uz_cert_lines.specs.Lines.{point_form}
 use Rattle.uz_cert_laws.proofs.Numbers.{is_within as within_so, under_both, both_under, least_small}
@@ -16,10 +15,10 @@ use Rattle.uz_cert_laws.proofs.FormLaws.{Fit, SaysFacts, IsReadable, form_again,
 use Rattle.uz_cert_laws.proofs.Fitting.{each_of_all, all_of_each, fact_in, fact_out, cells_in, cells_out, under_none, none_under}
 use Rattle.uz_cert_laws.proofs.Fitting.{none_small, box_under, under_box}
 use Rattle.uz_schedule.specs.{declared.kinds.RuleVersion.TheVariants.Two, declared.kinds.RuleVersion.TheVariants.Three, Limits.is_top}
-use Rattle.uz_schedule.specs.{Ends.whole_byte, Schedule.half_line, declared.states.Point.Point, declared.kinds.RuleVersion.RuleVersion}
+use Rattle.uz_schedule.specs.{declared.states.Point.Point, declared.kinds.RuleVersion.RuleVersion}
 use Rattle.uz_schedule.specs.{declared.facts.Compared.TheVariants.Nothing}
 use Rattle.uz_cert_writer.specs.Spelling.{truth_word, point_items, point_words}
-use Rattle.uz_cert_laws.proofs.{Tests.some_not, Tests.both_of, Tests.fine, Tests.true_not, Tests.number_is, Named.Say, Spelled.registers}
+use Rattle.uz_cert_laws.proofs.{Tests.some_not, Tests.both_of, Tests.fine, Tests.true_not, Named.Say, Spelled.registers}
 use Rattle.uz_cert_laws.proofs.{ReadItems.ShapeFits, Sections.each_length, EntryLine.shape_fits, SpelledItems.FactsFit, Facts.FactIn}
 use Rattle.uz_cert_lines.specs.{Named.values_of, Named.point_of, declared.lines.PointPlace.PointPlace}
 use Rattle.uz_cert_lines.specs.declared.lines.ParsedLine.TheVariants as parsed

@@ -1,6 +1,6 @@
 -- All items of a line: where they are read, they are what is spelled of the facts that they say.
 use Rattle.uz_cert_laws.proofs.Common.{nat_tests, ◌≡◌, ◌⊎◌, inl, inr, ℕ, zero, suc, ◌+◌, ◌<◌, ◌≤◌, Bool, true, false, cond, not, ◌&&◌}
-use Rattle.uz_cert_laws.proofs.Common.{◌||◌, eqb, ltb, List, [], ◌∷◌, ◌++◌, map, length, take, drop, get_or, decimal, codes, bytes_eq}
+use Rattle.uz_cert_laws.proofs.Common.{◌||◌, eqb, ltb, List, [], ◌∷◌, ◌++◌, map, length, take, drop, get_or, decimal, codes}
 use Rattle.uz_cert_laws.proofs.Common.{lit<, lit≤, refl, sym, ◌∙◌, ap, subst, append_assoc, append-nil, arith, Ok, slice_set, All-nil}
 use Rattle.uz_cert_laws.proofs.Common.{All-head, PairFits, BitFits, All-tail, decimal_digit, Ends, tracks, RangeFits, is_zero_or_one}
 use Rattle.uz_cert_laws.proofs.Common.{is_default_flag, is_carry_and_zero_default, Kind, Main, Handler, Alone, Cell, Fact, Any, Between}
@@ -8,7 +8,7 @@ use Rattle.uz_cert_laws.proofs.Common.{PairFact, Bit, Words, names_c_or_z, any_n
 use Rattle.uz_cert_laws.proofs.Common.{is_flag_z, tracked_count, take_item, items_from, read_items, FactForms, Shape, Facts, numbers_from}
 use Rattle.uz_cert_laws.proofs.Common.{fact_word, pair_word, flag_word, named_items, named_place, named_of, All, AnyPair, BetweenPair}
 use Rattle.uz_cert_laws.proofs.Common.{LinePair, LoopPair, letters_of_pairs, letters_of_flags, spelled}
-use Rattle.uz_cert_laws.proofs.Tests.{both_of, and_true, or_false, fine_is, fault_not, true_not, bind_ok, number_is, lt_is}
+use Rattle.uz_cert_laws.proofs.Tests.{both_of, and_true, fine_is, fault_not, true_not, bind_ok, number_is, lt_is}
 use Rattle.uz_cert_laws.proofs.Spelled.{registers, numbered_cells, usual_fact, usual_bit, usual_cell, registers_usual, cells_usual}
 use Rattle.uz_cert_laws.proofs.ItemForms.{with_pair, with_flag, PairForm, FlagForm, HasForm, register, pair, flag, slot, cell, listed}
 use Rattle.uz_cert_laws.proofs.ItemForms.{successor, PlacesFit, cell_form, flag_letter, item_taken}

@@ -6,7 +6,7 @@ use Rattle.uz_cert_laws.proofs.Common.{First, Second, Third, CertWhy, word_at, P
 use Rattle.uz_cert_lines.specs.Lines.{rest_form, length_for, KindLineFits, kind_form, event_after, event_form, fall_form, run_form}
 use Rattle.uz_cert_lines.specs.Lines.{end_form}
 use Rattle.uz_cert_writer.specs.Spelling.{rest_words, kind_words, event_words, event_kind_words, run_words}
-use Rattle.uz_cert_laws.proofs.Numbers.{is_within as within_so, one_of_so, rising_so, IsWithin, apart, is_within, other_so}
+use Rattle.uz_cert_laws.proofs.Numbers.{is_within as within_so, one_of_so, rising_so, IsWithin, is_within, other_so}
 use Rattle.uz_schedule.specs.declared.lines.EventKind.TheVariants.{Sync, Pixel, Sound, Leave}
 use Rattle.uz_cert_lines.proofs.Lengths.{length_few, least_length, no_other_length, length_asked}
 use Rattle.uz_cert_laws.specs.LineWords.{RunFits}

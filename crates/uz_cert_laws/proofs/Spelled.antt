@@ -1,12 +1,12 @@
 -- The items that facts are spelled as: registers, pairs, flags and cells as lists of optional items.
 use Rattle.uz_cert_laws.proofs.Common.{nat_tests, ◌≡◌, ℕ, zero, suc, ◌+◌, ◌<◌, ◌≤◌, Bool, true, false, cond, ◌&&◌, eqb, List, [], ◌∷◌}
-use Rattle.uz_cert_laws.proofs.Common.{map, length, decimal, lit≤, refl, sym, ◌∙◌, ap, subst, add-one, arith, Option, Some, slice_get}
+use Rattle.uz_cert_laws.proofs.Common.{map, length, decimal, lit≤, refl, sym, ◌∙◌, ap, subst, arith, Option, Some, slice_get}
 use Rattle.uz_cert_laws.proofs.Common.{Ends, tracks, is_default_flag, Kind, Main, Handler, Alone, Cell, Fact, Any, Between, Line, Loop}
 use Rattle.uz_cert_laws.proofs.Common.{Old, OldFlags, PairFact, Bit, Zero, One, Free, is_default, is_any_pair, is_range, range_fact}
-use Rattle.uz_cert_laws.proofs.Common.{default_flag, tracked_before, Shape, options, numbers_from, item, unless, fact_word, register_item}
+use Rattle.uz_cert_laws.proofs.Common.{default_flag, tracked_before, Shape, options, numbers_from, item, fact_word, register_item}
 use Rattle.uz_cert_laws.proofs.Common.{register_items, cell_items, AnyPair, BetweenPair, LinePair, LoopPair, OldBit}
-use Rattle.uz_cert_laws.proofs.Tests.{and_true, both_true, number_is, same_number, so, else_so}
-use Rattle.uz_cert_lines.specs.Items.{own_regs, any_regs, default_regs, default_cells}
+use Rattle.uz_cert_laws.proofs.Tests.{and_true, number_is, same_number, so, else_so}
+use Rattle.uz_cert_lines.specs.Items.{default_regs, default_cells}
 use Rattle.uz_cert_laws.proofs.{ItemForms.cell_form, Facts.FactIn, Facts.part_not_whole}
 
 -- the keys: registers by number, pairs and flags by letter, cells by number

@@ -1,17 +1,17 @@
 -- All items of a line: what is spelled of facts is read as these facts.
-use Rattle.uz_cert_laws.proofs.Common.{nat_tests, ends, Main, Handler, Alone, inr, CertWhy, inl, Result, pair_of, line}
+use Rattle.uz_cert_laws.proofs.Common.{nat_tests, ends, Main, Handler, Alone, CertWhy, Result, pair_of, line}
 use Rattle.uz_cert_laws.proofs.Common.{is_carry_and_zero_default, PairFits, BitFits, ◌≡◌, ℕ, zero, suc, ◌+◌, ◌<◌, ◌≤◌, Bool, true, false}
 use Rattle.uz_cert_laws.proofs.Common.{cond, not, ◌&&◌, ◌||◌, eqb, leb, ltb, List, [], ◌∷◌, ◌++◌, map, length, take, get_or, decimal}
 use Rattle.uz_cert_laws.proofs.Common.{codes, bytes_eq, lit<, lit≤, refl, sym, ◌∙◌, ap, subst, append_assoc, append-nil, add-one}
 use Rattle.uz_cert_laws.proofs.Common.{length-append, arith, Some, Ok, Err, slice_get, slice_set, All-head, All-tail, decimal_digit}
 use Rattle.uz_cert_laws.proofs.Common.{rises_from, rises, tracks, is_zero_or_one, is_default_flag, Kind, Cell, Fact, PairFact, Bit, Zero}
 use Rattle.uz_cert_laws.proofs.Common.{One, Free, raw_of, range, one_number, is_default, is_any_pair, first_facts, bytes_forms}
-use Rattle.uz_cert_laws.proofs.Common.{pair_forms, tracked_count, names_c_or_z, any_names, tracked_before, is_flag_z, take_item}
+use Rattle.uz_cert_laws.proofs.Common.{pair_forms, tracked_count, any_names, tracked_before, is_flag_z, take_item}
 use Rattle.uz_cert_laws.proofs.Common.{items_from, read_items, Raw, Shape, Facts, numbers_from, register_item, pair_item, flag_item}
 use Rattle.uz_cert_laws.proofs.Common.{fact_word, pair_word, flag_word, named_items, named_place, successors_place, NamedValues, named_of}
 use Rattle.uz_cert_laws.proofs.Common.{with_named, All, AnyPair, BetweenPair, OldBit, letters_of_pairs, letters_of_flags, spelled}
-use Rattle.uz_cert_laws.proofs.Tests.{three_of, same_number, both_true, given, fine_is, and_true, or_false, fine, fault_not, true_not}
-use Rattle.uz_cert_laws.proofs.Tests.{refuted, neither, then, le_is, word_is, is_lt, is_not_lt}
+use Rattle.uz_cert_laws.proofs.Tests.{three_of, same_number, both_true, given, fine_is, and_true, fine, fault_not, true_not}
+use Rattle.uz_cert_laws.proofs.Tests.{refuted, then, le_is, word_is, is_lt}
 use Rattle.uz_cert_laws.proofs.ReadItems.{tells_flags, TellsFlags, items_only, ShapeFits, IsMeant}
 use Rattle.uz_cert_laws.proofs.ItemForms.{form_takes, pair, listed, flag, successor, slot, register, cell, HasForm, cell_form}
 use Rattle.uz_cert_laws.proofs.ItemForms.{pair_letter, flag_letter}
@@ -20,7 +20,7 @@ use Rattle.uz_cert_laws.proofs.Spelled.{usual_bit, usual_cell, registers_usual, 
 use Rattle.uz_cert_laws.proofs.Spelled.{range_only_usual}
 use Rattle.uz_cert_laws.proofs.GrowingFacts.{registers_list, pairs_list, flags_list, cells_list}
 use Rattle.std.proofs.Math.Seq.{take-append_seam}
-use Rattle.uz_cert_laws.proofs.{Named.sets_between, Named.or_second, Named.Say, Named.usuals, Named.listed_read, Facts.FactIn}
+use Rattle.uz_cert_laws.proofs.{Named.sets_between, Named.Say, Named.usuals, Named.listed_read, Facts.FactIn}
 use Rattle.uz_cert_laws.proofs.{Facts.pair_so, Facts.one_raw, Sections.Each, Sections.Ordered, Sections.options_read}
 use Rattle.uz_cert_lines.specs.declared.values.Raw.TheVariants as raw
 use Rattle.uz_cert_lines.specs.declared.why.CertWhy.TheVariants as why

@@ -1,6 +1,6 @@
 -- The lengths that a kind of line may have.
-use Rattle.std.proofs.Common.{◌≡◌, ◌⊎◌, inl, inr, ℕ, ◌+◌, ◌<◌, ◌≤◌, Bool, true, false, ◌||◌, cond, eqb, ltb, refl, sym, subst, arith}
-use Rattle.std.proofs.{lemmas.Bool.Decides.nat_tests, lemmas.Bool.ltb-true, lemmas.Bool.ltb-false, lemmas.Bool.eqb-true}
+use Rattle.std.proofs.Common.{◌≡◌, ◌⊎◌, inl, inr, ℕ, ◌+◌, ◌<◌, ◌≤◌, true, cond, ltb, arith}
+use Rattle.std.proofs.{lemmas.Bool.Decides.nat_tests}
 use Rattle.uz_schedule.specs.{Limits.is_length, Limits.most_events, Schedule.scanline, Schedule.half_line}
 
 pub two_lengths : (n : ℕ) → is_length n ≡ true → (n ≡ half_line) ⊎ (n ≡ scanline)

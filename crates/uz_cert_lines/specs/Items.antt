@@ -1,6 +1,6 @@
 -- The items of a line, as they are read: each sets one fact, in the order of registers, pairs, flags, slots, cells, those
 -- of a name and one value, successors.
-use Rattle.std.specs.Prelude.{ℕ, zero, suc, ◌+◌, ◌-◌, ◌==◌, ◌&&◌, ◌||◌, not, nat_le, nat_lt, Bool, true, false, List, [], ◌∷◌, ◌++◌, length}
+use Rattle.std.specs.Prelude.{ℕ, zero, suc, ◌+◌, ◌==◌, ◌&&◌, ◌||◌, not, nat_le, nat_lt, Bool, true, false, List, [], ◌∷◌, ◌++◌, length}
 use Rattle.std.specs.Prelude.{take, codes, bytes_eq, slice_get, slice_set, Option, Some, None, Result, Ok, Err, if◌then◌else◌}
 use Prim.Native.Char.{code}
 use Rattle.uz_hex.specs.Cutting.{cut_at}

@@ -29,7 +29,6 @@ use Rattle.uz_cert_lines.specs.declared.words.NumberBounds.{NumberBounds}
 use Rattle.uz_cert_lines.specs.declared.items.Shape.{Shape}
 use Rattle.uz_cert_lines.specs.declared.items.Facts.{Facts}
 use Rattle.uz_cert_lines.specs.declared.lines.KindLine.{KindLine}
-use Rattle.uz_cert_lines.specs.declared.lines.PointPlace.{PointPlace}
 use Rattle.uz_cert_lines.specs.declared.lines.ParsedLine.TheVariants as parsed
 use Rattle.uz_cert_lines.specs.declared.lines.Sizes.{Sizes}
 use Rattle.uz_cert_lines.specs.declared.version.Version.{Version}

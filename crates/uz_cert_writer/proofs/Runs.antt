@@ -1,5 +1,5 @@
 -- Lines of one kind that follow each other, counted from the front.
-use Rattle.uz_cert_writer.proofs.Common.{◌≡◌, ℕ, ◌+◌, Bool, true, false, cond, List, [], ◌∷◌, ◌++◌, append_assoc, refl, sym, ◌∙◌, ap}
+use Rattle.uz_cert_writer.proofs.Common.{◌≡◌, ℕ, ◌+◌, false, cond, List, [], ◌∷◌, ◌++◌, append_assoc, refl, sym, ◌∙◌, ap}
 use Rattle.uz_cert_writer.proofs.Common.{arith, ◌<◌, drop, get_or, length, runs_of, ended, line_end, run_lines, run_on}
 use Rattle.uz_cert_writer.specs.Spelling.{run_before, run_words}
 use Rattle.std.proofs.{Common.eqb, lemmas.Bool.Decides.nat_tests}

@@ -1,15 +1,13 @@
 -- One more word or line at the end of a text.
-use Rattle.std.proofs.lemmas.Bool.Decides.{nat_tests}
 use Rattle.uz_cert_writer.proofs.Common.{◌≡◌, ℕ, ◌+◌, ◌<◌, ◌≤◌, Bool, true, false, cond, List, [], ◌∷◌, ◌++◌, map, drop, get_or, length}
 use Rattle.uz_cert_writer.proofs.Common.{decimal, refl, sym, ◌∙◌, ap, arith, append_assoc, append-nil, Cell, Event, line_of, unless, item}
 use Rattle.uz_cert_writer.proofs.Common.{fact_word, register_items, cell_items, Second, kind_words, event_words, kinds_then, spaced}
 use Rattle.uz_cert_writer.proofs.Common.{ended, line_end}
-use Rattle.uz_schedule.specs.Limits.{is_length, clocks_below, lengths_fit}
+use Rattle.std.proofs.{lemmas.Bool.Decides.nat_tests, lemmas.List.drop_all, Common.suc, Common.add-one, Common.drop-cons}
+use Rattle.uz_schedule.specs.{Limits.lengths_fit, Tracked.tracks, declared.kinds.Kind.Kind, declared.facts.Fact.Fact}
 use Rattle.uz_cert_lines.specs.Defaults.{is_default, is_range}
 use Rattle.uz_cert_writer.specs.Spelling.{options, register_item}
 use Rattle.uz_cert_writer.proofs.Joining.{spaced_append, ended_append, line_ended}
-use Rattle.uz_schedule.specs.{Tracked.tracks, declared.kinds.Kind.Kind, declared.facts.Fact.Fact}
-use Rattle.std.proofs.{lemmas.List.drop_all, Common.suc, Common.◌&&◌, Common.add-one, Common.drop-cons}
 
 -- pieces put one after another
 

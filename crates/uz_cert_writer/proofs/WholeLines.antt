@@ -3,7 +3,7 @@ use Rattle.uz_cert_writer.proofs.Common.{◌≡◌, ℕ, List, [], ◌∷◌, �
 use Rattle.uz_cert_writer.proofs.Common.{register_items, pair_items, flag_items, slot_items, cell_items, successor_items, ends_word}
 use Rattle.uz_cert_writer.proofs.Common.{rest_words, entry_words, point_words, spaced, line_end}
 use Rattle.std.proofs.Common.{codes}
-use Rattle.uz_cert_writer.specs.Spelling.{value_items, listed_items, range_facts, entry_items, point_items}
+use Rattle.uz_cert_writer.specs.Spelling.{value_items, listed_items, entry_items, point_items}
 use Rattle.uz_cert_lines.specs.Named.{NamedItem, named_items, NamedValues, values_of}
 use Rattle.uz_cert_writer.specs.Joined.{rest_text, entry_place, entry_facts, entry_text, point_place, core_text, memory_text, listed_text}
 use Rattle.uz_cert_writer.specs.Joined.{onward_text, point_text}
