@@ -34,12 +34,7 @@ whole_fits d e k expected is =
     let points : d.sizes.points ≡ length d.points = omega (arith, k.states.2.few, w.points) in
     let sum = k.states.2.instances in
     record {
-      head = record {
-        stack = k.stack;
-        few = omega (arith, k.cells.few, s.cells_few);
-        cells = k.cells.each;
-        rise = k.cells.rise;
-      };
+      head = grind (arith, k.stack, k.cells, s.cells_few);
       schedule = schedule_fits d k w;
       rests = record {
         few = omega (arith, k.states.0.few, s.rests_few, lines);

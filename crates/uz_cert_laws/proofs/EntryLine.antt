@@ -238,15 +238,7 @@ entry_fits h lines points kind id pc line clock f s n i p l c =
       pc = p;
       line = l.0;
       clock = c.0;
-      facts = record {
-        registers = s.regs_count;
-        ranges = s.regs_fit;
-        flag_count = s.flag_count;
-        flags = s.flags_fit;
-        slots = s.slots;
-        stack = s.stack_fit;
-        cells = s.cells_fit;
-      };
+      facts = grind (arith, s);
     }
 
 pub entry_only : (h : Head) (lines points : ℕ) (words : Words) (says : ParsedLine) → PlacesAre h lines points → 1 ≤ lines

@@ -307,15 +307,7 @@ point_kind_fits : (version : Version) (h : Head) (lines points : ℕ) (at : Poin
     → PlaceSaid lines at → Say named_items (point_shape version h kind points) (named_of f) → PointKindFits kind (point_of at f)
 unfolding point_of
 point_kind_fits version h lines points at f Main e p t = (
-  record {
-    first_line = p.l0_main e;
-    last_line = p.l1_main e;
-    first_count = p.c0_main e;
-    last_count = p.c1_main e;
-    clock = p.clock_main e;
-    slope = no_slope at.slope (p.slope_main e);
-    pending = p.waits (ap pending_limit e);
-  },
+  grind (arith, p, e, no_slope at.slope (p.slope_main e), p.waits (ap pending_limit e)),
   left_out (point_shape version h Main points) at f (other_untimed version Main refl) t,
 )
 point_kind_fits version h lines points at f Handler e p t = record { top = t.0.0.0; temp = t.1.0.0 }
@@ -340,14 +332,7 @@ point_fits version h lines points at f r p =
       kind = point_kind_fits version h lines points at f at.kind refl p r.listed_fit;
       rules = rules_out h.version at.kind (point_of at f) r.listed_fit.1.1.0 r.listed_fit.1.1.1.0;
       pc = p.pc;
-      box = record {
-        line_order = p.line_order;
-        line = p.line;
-        count_order = p.count_order;
-        count = p.count;
-        clock = p.clock_in;
-        slope = p.slope_in;
-      };
+      box = grind (arith, p);
       core = record {
         register_count = each_length (λ k x. FactIn (bytes_forms shape) x) registers f.regs r.regs_fit;
         registers = All-weaker (FactIn (bytes_forms shape)) (FactFits kind) (fact_out shape) f.regs

@@ -1,8 +1,8 @@
 -- Ranges for the cells of the handler, one word for each.
-use Rattle.uz_cert_laws.proofs.Common.{All-weaker, ◌≡◌, ℕ, ◌≤◌, Bool, true, false, cond, List, [], ◌∷◌, ◌++◌, map, filter, refl, ◌∙◌, ap}
-use Rattle.uz_cert_laws.proofs.Common.{subst, Result, Ok, All-nil, All-cons, All-head, All-tail, Ends, is_within, tracks, RangeFits}
-use Rattle.uz_cert_laws.proofs.Common.{CellFits, spans_fit, Handler, Cell, Head, ◌>>=◌, Words, rest_of, next_as, span_of, spans_of}
-use Rattle.uz_cert_laws.proofs.Common.{CertWhy, ends_word, All, line}
+use Rattle.uz_cert_laws.proofs.Common.{arith, All-weaker, ◌≡◌, ℕ, ◌≤◌, Bool, true, false, cond, List, [], ◌∷◌, ◌++◌, map, filter, refl}
+use Rattle.uz_cert_laws.proofs.Common.{◌∙◌, ap, subst, Result, Ok, All-nil, All-cons, All-head, All-tail, Ends, is_within, tracks}
+use Rattle.uz_cert_laws.proofs.Common.{RangeFits, CellFits, spans_fit, Handler, Cell, Head, ◌>>=◌, Words, rest_of, next_as, span_of}
+use Rattle.uz_cert_laws.proofs.Common.{spans_of, CertWhy, ends_word, All, line}
 use Rattle.uz_cert_laws.proofs.Tests.{fine, fault_not, and_true, both_true, bind_ok, then}
 use Rattle.uz_cert_lines.specs.Forms.{with_span}
 use Rattle.uz_cert_laws.proofs.{Numbers.words_in, Facts.span_only, Facts.span_so}
@@ -66,14 +66,7 @@ spans_gone (c ∷ cs) list ended p b e =
     by_own (tracks Handler c.owner) refl e (λ l q g. spans_gone cs l ended q (All-tail (λ c. c.range.hi ≤ 255) c cs b) g)
   where
     passed_on : tracks Handler c.owner ≡ false → SpansGone cs list ended p → SpansGone (c ∷ cs) list ended p
-    passed_on t g =
-        record {
-          words = g.words;
-          end = g.end;
-          ranges = g.ranges;
-          inside = ap (λ u. spans_fit (cond u (c ∷ own cs) (own cs)) p.0) t
-              ∙ g.inside;
-        }
+    passed_on t g = grind (arith, t, g)
 
     by_list : tracks Handler c.owner ≡ true → (l : List (List ℕ))
         → next_as (span_of c.range) (words_in l ended) >>= (λ x. with_span x (spans_of cs (rest_of (words_in l ended)))) ≡ Ok p

@@ -12,13 +12,7 @@ places : (d : Draft) → Kept d → PlacesAre d.head d.sizes.lines d.sizes.point
 places d k =
     let few = k.cells.few in
     let most = k.sizes.cells_few in
-    record {
-      few = omega (arith, few, most);
-      each = k.cells.each;
-      stack = k.stack;
-      lines_few = k.sizes.lines_few;
-      points_few = k.sizes.points_few;
-    }
+    grind (arith, few, most, k.cells.each, k.stack, k.sizes.lines_few, k.sizes.points_few)
 
 few_left : (d : Draft) → Kept d → d.left ≤ 2 ^ 30
 few_left d k = let sum = k.states.2.instances in omega (arith, sum)
