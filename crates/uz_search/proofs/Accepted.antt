@@ -1,21 +1,16 @@
 -- The certificate of an ended search is accepted.
-use Rattle.std.proofs.Common.{◌≡◌, ℕ, ◌<◌, ◌≤◌, ◌+◌, None, Some, sym, ap, ◌∙◌, subst, slice_get, arith}
-use Rattle.std.specs.Prelude.{Contains, true}
-use Rattle.std.proofs.lemmas.Option.{slice_get_within}
+use Rattle.uz_search.proofs.Common.{◌≡◌, ℕ, ◌<◌, ◌≤◌, ◌+◌, None, Some, sym, ap, ◌∙◌, subst, slice_get, arith, Contains, true}
+use Rattle.uz_search.proofs.Common.{slice_get_within, length_of, start_of, event_at, response_clocks, Head, IsReadAt, lines_of}
 use Rattle.uz_schedule.specs.Instances.{is_in_box}
-use Rattle.uz_schedule.specs.Schedule.{length_of, start_of, event_at, response_clocks}
-use Rattle.uz_schedule.specs.declared.header.Head.{Head}
 use Rattle.uz_schedule.specs.declared.states.Point.{Point}
 use Rattle.uz_schedule.specs.declared.states.Rest.{Rest}
-use Rattle.uz_transfer.specs.Step.{IsReadAt}
 use Rattle.uz_rules.specs.Local.{IsLocal, local_fail}
 use Rattle.uz_check.specs.FrameRules.{RestPasses}
-use Rattle.uz_search.specs.Following.{lines_of}
-use Rattle.uz_search.proofs.Coverage as cover
 use Rattle.uz_search.proofs.Frame.{falls_once, rests_are_quiet, rests_enter}
 use Rattle.uz_search.proofs.LocalHolds.{passes_local}
 use Rattle.uz_search.specs.Accepting.{EndedAccepts}
 use Rattle.uz_search.proofs.SteadyLines.{steady}
+use Rattle.uz_search.proofs.Coverage as cover
 
 pub accepted : EndedAccepts
 accepted image p found cert fits ended made schedule of = record {
@@ -45,7 +40,7 @@ accepted image p found cert fits ended made schedule of = record {
         l c None
     point_passes id l c point at box =
         let s = of.points id l c point at box in
-        let t = cover.treated image p fits found.nodes.keys found.parents.items found.marks.items found.returns.items ended s.x s.node in
+        let t = cover.treated (record { image = image; program = p; fits = fits; found = found; s = ended }) s.x s.node in
         record {
           point = point;
           is_point = at;

@@ -1,11 +1,8 @@
 -- What is known of the facts of one place: how a range goes over them, and one more before them.
-use Rattle.std.proofs.Common.{◌≡◌, ℕ, zero, suc, ◌-◌, ◌<◌, ◌≤◌, List, [], ◌∷◌, ◌++◌, length, Some, slice_get, true, false, ◌&&◌, ◌||◌}
-use Rattle.std.proofs.Common.{nat_le, nat_lt, if◌then◌else◌, refl, sym, ap, ◌∙◌, subst, arith, ◌⊎◌, inl, inr, ⊎_elim}
-use Rattle.std.proofs.lemmas.Bool.Decides.{nat_tests}
-use Rattle.uz_schedule.specs.Ends.{Ends, is_within}
-use Rattle.uz_search.specs.declared.chain.Node.{Node}
-use Rattle.uz_search.specs.Places.{folded}
-use Rattle.uz_search.specs.Chains.{IsChain, IsNode, is_passed, ranges_below, with_node}
+use Rattle.uz_search.proofs.Common.{◌≡◌, ℕ, zero, suc, ◌-◌, ◌<◌, ◌≤◌, List, [], ◌∷◌, ◌++◌, length, Some, slice_get, true, false, ◌&&◌, ◌||◌}
+use Rattle.uz_search.proofs.Common.{nat_le, nat_lt, if◌then◌else◌, refl, sym, ap, ◌∙◌, subst, arith, ◌⊎◌, inl, inr, ⊎_elim, nat_tests, Ends}
+use Rattle.uz_search.proofs.Common.{is_within, Node, folded, IsChain, IsNode, ranges_below}
+use Rattle.uz_search.specs.Chains.{is_passed, with_node}
 
 -- Lists
 

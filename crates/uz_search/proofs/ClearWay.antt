@@ -1,22 +1,9 @@
 -- What an instance passes is clear, or there is a clock that is unsteady.
-use Rattle.std.proofs.Common.{◌≡◌, ◌≢◌, ℕ, zero, suc, ◌≤◌, ◌+◌, ◌⊎◌, Option, Some, None, Bool, true, false, ◌&&◌, nat_eq, nat_lt, refl, sym}
-use Rattle.std.proofs.Common.{ap, ◌∙◌, subst, inl, inr, ⊎_elim, if◌then◌else◌, true≢false, arith}
-use Rattle.std.proofs.lemmas.Bool.{cases_eq}
-use Rattle.std.proofs.lemmas.Bool.Decides.{nat_tests}
-use Rattle.uz_schedule.specs.declared.kinds.Kind.TheVariants.{Main}
-use Rattle.uz_schedule.specs.declared.lines.EventKind.{EventKind}
-use Rattle.uz_schedule.specs.declared.lines.EventKind.TheVariants.{Sync, Pixel, Sound, Leave}
-use Rattle.uz_schedule.specs.declared.states.Instance.{Instance}
-use Rattle.uz_rules.specs.declared.next.Next.{Next}
-use Rattle.uz_search.specs.declared.program.Program.{Program}
-use Rattle.uz_search.specs.Following.{clock_on, most_clocks, shown_at}
-use Rattle.uz_search.specs.Stuck.{IsUnsteady, PassesUnsteady}
-use Rattle.uz_search.specs.Tests.{is_fall, is_clear_at, is_clear_way}
-use Rattle.uz_search.proofs.VisitingLemmas.{some_is}
-
-both_true : (a b : Bool) → (a && b) ≡ true → (a ≡ true) × (b ≡ true)
-both_true true b h = (refl, h)
-both_true false b h = absurd (true≢false (sym h))
+use Rattle.uz_search.proofs.Common.{◌≡◌, ◌≢◌, ℕ, zero, suc, ◌≤◌, ◌+◌, ◌⊎◌, Option, Some, None, Bool, true, false, ◌&&◌, nat_eq, nat_lt}
+use Rattle.uz_search.proofs.Common.{refl, sym, ap, ◌∙◌, subst, inl, inr, ⊎_elim, if◌then◌else◌, true≢false, arith, cases_eq, and_parts}
+use Rattle.uz_search.proofs.Common.{nat_tests, Main, EventKind, Sync, Pixel, Sound, Leave, Instance, Next, Program, clock_on, most_clocks}
+use Rattle.uz_search.proofs.Common.{shown_at, IsUnsteady, PassesUnsteady, is_clear_at, is_clear_way, same_Some}
+use Rattle.uz_search.specs.Tests.{is_fall}
 
 one_false : (a b : Bool) → (a && b) ≡ false → (a ≡ false) ⊎ (b ≡ false)
 one_false true b h = inr h
@@ -41,7 +28,7 @@ unclear fall q (Some e) h = by (is_fall e) refl
         let test : nat_lt fall q ≡ false = ap (λ b. if b then nat_eq q fall else nat_lt fall q) (sym is) ∙ h in
         let le : q ≤ fall = grind (arith, nat_tests) in
         ⊎_elim
-        (λ (same : q ≡ fall). inr (inr (same, λ s. true≢false (sym (ap is_fall (some_is e (Sync 0) s)) ∙ is))))
+        (λ (same : q ≡ fall). inr (inr (same, λ s. true≢false (sym (ap is_fall (same_Some e (Sync 0) s)) ∙ is))))
         (λ (apart : q ≢ fall). inl (e, refl, omega (arith, le, apart)))
         (cases_eq q fall)
 
@@ -62,7 +49,7 @@ clear fall q (Some e) h u = by (is_fall e) refl u
     by false is (inl v) =
         let test : nat_lt fall q ≡ true = ap (λ b. if b then nat_eq q fall else nat_lt fall q) (sym is) ∙ h in
         let lt = v.2 in grind (arith, nat_tests)
-    by false is (inr (inl v)) = true≢false (sym (ap is_fall (some_is e (Sync 0) v.0)) ∙ is)
+    by false is (inr (inl v)) = true≢false (sym (ap is_fall (same_Some e (Sync 0) v.0)) ∙ is)
     by false is (inr (inr v)) =
         let test : nat_lt fall q ≡ true = ap (λ b. if b then nat_eq q fall else nat_lt fall q) (sym is) ∙ h in
         let same = v.0 in grind (arith, nat_tests)
@@ -77,7 +64,7 @@ module _ (program : Program) (x : Instance) (emit : Option (ℕ × EventKind)) w
   unfolding is_clear_way
   clear_each zero h k some few = absurd (omega (arith, some, few))
   clear_each (suc n) h k some few =
-      let b = both_true (is_clear_way program x emit n) (Test (suc n)) h in
+      let b = and_parts (is_clear_way program x emit n) (Test (suc n)) h in
       ⊎_elim (λ (same : k ≡ suc n). subst (λ m. Test m ≡ true) (sym same) b.1) (λ (apart : k ≢ suc n). clear_each n b.0 k some
       (omega (arith, few, apart))) (cases_eq k (suc n))
 

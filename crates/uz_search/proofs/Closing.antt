@@ -1,18 +1,11 @@
 -- What is shown at a clock, and places some clocks apart.
-use Rattle.std.proofs.Common.{◌≡◌, ℕ, zero, suc, ◌<◌, ◌≤◌, ◌-◌, List, [], ◌∷◌, max, Option, Some, None, Bool, true, false, refl, sym, ap}
-use Rattle.std.proofs.Common.{◌∙◌, subst, inl, inr, slice_get, nat_eq, if◌then◌else◌, arith}
-use Rattle.std.proofs.lemmas.Bool.{eqb-true, eq-eqb}
-use Rattle.uz_schedule.specs.Schedule.{length_of}
-use Rattle.uz_schedule.specs.declared.lines.Schedule.{Schedule}
-use Rattle.uz_schedule.specs.declared.states.Instance.{Instance}
-use Rattle.uz_schedule.specs.declared.lines.EventKind.{EventKind}
-use Rattle.uz_search.specs.declared.program.Program.{Program}
-use Rattle.uz_search.specs.Following.{most_clocks, clocks_between, shown_at}
+use Rattle.uz_search.proofs.Common.{◌≡◌, ℕ, zero, suc, ◌<◌, ◌≤◌, ◌-◌, List, [], ◌∷◌, max, Option, Some, None, Bool, true, false, refl, sym}
+use Rattle.uz_search.proofs.Common.{ap, ◌∙◌, subst, inl, inr, slice_get, nat_eq, if◌then◌else◌, arith, eqb-true, eq-eqb, length_of}
+use Rattle.uz_search.proofs.Common.{Schedule, Instance, EventKind, Program, most_clocks, clocks_between, shown_at, same_Some}
 use Rattle.uz_search.proofs.FramePlaces.{IsNext, Reaches, one_next}
-use Rattle.uz_search.proofs.VisitingLemmas.{some_is}
 
 shown_choice : (b : Bool) (d e : EventKind) → (if b then Some d else None) ≡ Some e → (b ≡ true) × (d ≡ e)
-shown_choice true d e h = (refl, some_is d e h)
+shown_choice true d e h = (refl, same_Some d e h)
 shown_choice false d e h = cc
 
 -- what is shown at a clock is the one event
@@ -28,14 +21,14 @@ shown_here emit k e h = ap (λ m. shown_at m k) h ∙ ap (λ b. if b then Some e
 
 pub one_emit : (emit : Option (ℕ × EventKind)) (j k : ℕ) (d e : EventKind) → emit ≡ Some (j, d) → emit ≡ Some (k, e) → (j ≡ k) × (d ≡ e)
 one_emit emit j k d e a b =
-    let p : (j, d) ≡ (k, e) = some_is (j, d) (k, e) (sym a ∙ b) in
+    let p : (j, d) ≡ (k, e) = same_Some (j, d) (k, e) (sym a ∙ b) in
     (ap (λ (x : ℕ × EventKind). x.0) p, ap (λ (x : ℕ × EventKind). x.1) p)
 
 pub clocks_few : (program : Program) (x : Instance) (out : List Instance) (i : ℕ) (y : Instance) → slice_get out i ≡ Some y
     → clocks_between program x y ≤ most_clocks program x out
 clocks_few program x [] i y h = cc
 clocks_few program x (z ∷ zs) zero y h =
-    subst (λ v. clocks_between program x v ≤ max (clocks_between program x z) (most_clocks program x zs)) (some_is z y h) (omega arith)
+    subst (λ v. clocks_between program x v ≤ max (clocks_between program x z) (most_clocks program x zs)) (same_Some z y h) (omega arith)
 clocks_few program x (z ∷ zs) (suc i) y h = let r = clocks_few program x zs i y h in omega (arith, r)
 
 -- from one place that is passed to a later one

@@ -1,34 +1,22 @@
 -- What an instruction tells of a comparison stays within limits.
-use Rattle.std.proofs.Common.{◌≡◌, ℕ, ◌<◌, ◌+◌, ◌*◌, Bool, true, false, ◌&&◌, nat_eq, refl, if◌then◌else◌, arith}
-use Rattle.std.proofs.lemmas.Bool.Decides.{nat_tests}
-use Rattle.uz_core.specs.OperandRanges.{EffectFits, OperandFits}
-use Rattle.uz_core.specs.declared.machine.AddressMode.{AddressMode}
-use Rattle.uz_core.specs.declared.machine.AddressMode.TheVariants.{Direct, PostIncrement, PreDecrement}
-use Rattle.uz_core.specs.declared.machine.BinaryOp.{BinaryOp}
+use Rattle.uz_search.proofs.Common.{◌≡◌, ℕ, ◌<◌, ◌+◌, ◌*◌, Bool, true, false, ◌&&◌, nat_eq, refl, if◌then◌else◌, arith, nat_tests}
+use Rattle.uz_search.proofs.Common.{EffectFits, AddressMode, Direct, PostIncrement, PreDecrement, BinaryOp, Effect, AddToPair, Binary}
+use Rattle.uz_search.proofs.Common.{CopyByte, CopyPair, Jump, Load, LoadBit, LoadProgram, Multiply, NoOperation, PopByte, PushByte, Store}
+use Rattle.uz_search.proofs.Common.{StoreBit, Unary, WriteFlag, Operand, Constant, UnaryOp, Ends, hull, Compared, Byte, Nothing, PairResult}
+use Rattle.uz_search.proofs.Common.{Value, Head, Kind, Main, Handler, Alone, Instance, is_main, address_range, exact_pair, span_of}
+use Rattle.uz_search.proofs.Common.{value_at, ComparedKnown}
+use Rattle.uz_core.specs.OperandRanges.{OperandFits}
+use Rattle.uz_core.specs.declared.machine.Effect.TheVariants.{Return}
+use Rattle.uz_core.specs.declared.machine.Operand.TheVariants.{Register}
+use Rattle.uz_schedule.specs.declared.facts.Compared.TheVariants.{Pair, Result}
+use Rattle.uz_search.specs.Limits.{ComparedIsThere}
 use Rattle.uz_core.specs.declared.machine.BinaryOp.TheVariants.{And, Subtract}
-use Rattle.uz_core.specs.declared.machine.Effect.{Effect}
-use Rattle.uz_core.specs.declared.machine.Effect.TheVariants.{AddToPair, Binary, CopyByte, CopyPair, Jump, Load, LoadBit, LoadProgram, Multiply}
-use Rattle.uz_core.specs.declared.machine.Effect.TheVariants.{NoOperation, PopByte, PushByte, Return, Store, StoreBit, Unary, WriteFlag}
-use Rattle.uz_core.specs.declared.machine.Operand.{Operand}
-use Rattle.uz_core.specs.declared.machine.Operand.TheVariants.{Constant, Register}
-use Rattle.uz_core.specs.declared.machine.UnaryOp.{UnaryOp}
 use Rattle.uz_core.specs.declared.machine.UnaryOp.TheVariants.{Swap}
-use Rattle.uz_schedule.specs.Ends.{Ends, hull}
 use Rattle.uz_schedule.specs.WellFormed.{AgainstFits}
-use Rattle.uz_schedule.specs.declared.facts.Compared.{Compared}
-use Rattle.uz_schedule.specs.declared.facts.Compared.TheVariants.{Byte, Nothing, Pair, PairResult, Result, Value}
-use Rattle.uz_schedule.specs.declared.header.Head.{Head}
-use Rattle.uz_schedule.specs.declared.kinds.Kind.{Kind}
-use Rattle.uz_schedule.specs.declared.kinds.Kind.TheVariants.{Main, Handler, Alone}
 use Rattle.uz_schedule.specs.declared.kinds.RuleVersion.{RuleVersion}
 use Rattle.uz_schedule.specs.declared.kinds.RuleVersion.TheVariants.{Two, Three}
-use Rattle.uz_schedule.specs.declared.states.Instance.{Instance}
 use Rattle.uz_transfer.specs.Compared.{against_operand, borrowed, chained, compared_after, is_three, may_be_sreg, names, past_pointer}
 use Rattle.uz_transfer.specs.Compared.{told_after, told_by, unary_told, unless_named, unless_pair_named}
-use Rattle.uz_transfer.specs.Kinds.{is_main}
-use Rattle.uz_transfer.specs.Memory.{address_range}
-use Rattle.uz_transfer.specs.Values.{exact_pair, span_of, value_at}
-use Rattle.uz_search.specs.Limits.{ComparedIsThere, ComparedKnown}
 use Rattle.uz_search.proofs.Lists.{choose}
 
 unnamed : (d : ℕ) (c : Compared) → ComparedIsThere c → ComparedIsThere (unless_named d c)

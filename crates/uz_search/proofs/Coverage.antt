@@ -1,44 +1,40 @@
 -- A search that ends reaches each line, and its returns end their lines.
-use Rattle.std.proofs.Common.{◌≡◌, ◌≢◌, ℕ, zero, suc, ◌<◌, ◌≤◌, ◌+◌, ◌-◌, List, map, Option, Some, true, false, sym, ap, ◌∙◌}
-use Rattle.std.proofs.Common.{subst, inl, inr, ⊎_elim, length, slice_get, if◌then◌else◌, true≢false, arith}
-use Rattle.std.specs.List.{flat_map}
-use Rattle.std.proofs.lemmas.Bool.{cases_lt}
-use Rattle.std.proofs.lemmas.Option.{slice_get_within}
-use Rattle.uz_schedule.specs.Schedule.{scanline, length_of, response_clocks}
-use Rattle.uz_schedule.specs.declared.states.Instance.{Instance}
-use Rattle.uz_schedule.specs.declared.kinds.Kind.TheVariants.{Main, Handler}
-use Rattle.uz_rules.specs.declared.next.Next.{Next}
-use Rattle.uz_schedule.specs.declared.lines.EventKind.{EventKind}
-use Rattle.uz_schedule.specs.declared.lines.EventKind.TheVariants.{Sync, Leave}
-use Rattle.uz_search.specs.declared.marks.Mark.{Mark}
-use Rattle.uz_search.specs.declared.program.Program.{Program}
-use Rattle.uz_search.specs.declared.returns.Return.{Return}
-use Rattle.uz_search.specs.Fitting.{ProgramFits, Stands}
-use Rattle.uz_search.specs.Pieces.{pieces}
-use Rattle.uz_search.specs.Following.{split_at, Among, Flash, Follows, entries, followers_of, lines_of, line_start, line_on, clock_on, place_on}
-use Rattle.uz_search.specs.Following.{most_clocks, clocks_between, shown_at}
-use Rattle.uz_search.specs.Marking.{Seen}
-use Rattle.uz_search.specs.Returning.{ReturnAt}
-use Rattle.uz_search.specs.Searching.{IsSearch, Treated}
-use Rattle.uz_search.specs.Widened.{widened}
+use Rattle.uz_search.proofs.Common.{◌≡◌, ◌≢◌, ℕ, zero, suc, ◌<◌, ◌≤◌, ◌+◌, ◌-◌, map, Some, true, false, sym, ap, ◌∙◌, subst, inl, inr}
+use Rattle.uz_search.proofs.Common.{⊎_elim, slice_get, if◌then◌else◌, true≢false, arith, flat_map, cases_lt, cases_Bool, slice_get_within}
+use Rattle.uz_search.proofs.Common.{same_Some, scanline, length_of, response_clocks, Instance, Main, Handler, Next, EventKind, Sync, Leave}
+use Rattle.uz_search.proofs.Common.{Program, Return, ProgramFits, Stands, pieces, split_at, Among, Flash, Follows, entries, followers_of}
+use Rattle.uz_search.proofs.Common.{lines_of, line_start, line_on, clock_on, place_on, most_clocks, clocks_between, shown_at, Seen}
+use Rattle.uz_search.proofs.Common.{ReturnAt, Treated, widened, Found}
+use Rattle.uz_search.specs.Searching.{IsEnded}
 use Rattle.uz_search.proofs.FramePlaces.{IsNext, Reaches, at, length_few, length_some, one_line, one_clock, one_next, reach_line, reach_on}
-use Rattle.uz_search.proofs.Lists.{kind_cases, bool_cases, in_map, in_first, of_flat}
+use Rattle.uz_search.proofs.Lists.{kind_cases, in_map, in_first, of_flat}
 use Rattle.uz_search.proofs.MarkingLemmas.{seen_once}
 use Rattle.uz_search.proofs.OneResult.{steps}
-use Rattle.uz_search.proofs.OneResult as result
 use Rattle.uz_search.proofs.PiecesLaws.{from_result, never_split, result_place}
 use Rattle.uz_search.proofs.Results.{Moves, apart_main, back_is_handler, same_kind, main_line, passes}
 use Rattle.uz_search.proofs.SearchingLemmas.{tree_all}
 use Rattle.uz_search.proofs.Standing.{stands_all}
-use Rattle.uz_search.proofs.VisitingLemmas.{some_is}
 use Rattle.uz_search.proofs.WidenedLaws.{widened_place}
-use Rattle.uz_search.proofs.NodeLaws as node_laws
 use Rattle.uz_search.proofs.NodeLaws.{Owes, Clear, entry_place, some_entry, start_place}
 use Rattle.uz_search.proofs.Closing.{shown_is, shown_here, one_emit, clocks_few, reaches_less, reaches_one, reaches_back}
+use Rattle.uz_search.proofs.OneResult as result
+use Rattle.uz_search.proofs.NodeLaws as node_laws
 
-module _ (image : Flash) (program : Program) (fits : ProgramFits program) (nodes : List Instance) (parents : List (Option ℕ))
-    (marks : List Mark) (returns : List (Option Return))
-    (s : IsSearch image program nodes parents marks returns (length nodes)) where
+-- a search that has ended, of a program that fits
+pub record Ended : Type 0 where
+  pub image : Flash
+  pub program : Program
+  pub fits : ProgramFits program
+  pub found : Found
+  pub s : IsEnded image program found
+
+module _ (ended : Ended) where
+  open ended use {image, program, fits, s}
+  open ended.found.nodes use {keys as nodes}
+  open ended.found.parents use {items as parents}
+  open ended.found.marks use {items as marks}
+  open ended.found.returns use {items as returns}
+
   pub stands : (x : Instance) → Among nodes x → Stands program x
   stands x node = stands_all image program nodes parents fits s.tree x node
 
@@ -215,7 +211,7 @@ module _ (image : Flash) (program : Program) (fits : ProgramFits program) (nodes
       (omega (arith, few, short)) (omega (arith, mv.some, le))
       (subst (λ (a : ℕ). Reaches program.schedule a z.clock (d - c) l program.schedule.fall) (sym same.line)
       (subst (λ (b : ℕ). Reaches program.schedule y.line b (d - c) l program.schedule.fall) (sym same.clock) left)))
-      (bool_cases t.next.back))
+      (cases_Bool t.next.back))
       (λ long. (record { x = x; node = node; apart = apart; k = d; some = some; few = long; reach = reach }, good))
       (cases_lt (most_clocks program x t.next.out.items) d)
     where
@@ -286,7 +282,7 @@ module _ (image : Flash) (program : Program) (fits : ProgramFits program) (nodes
       (subst (λ k. Reaches program.schedule f.x.line f.x.clock k l program.schedule.fall) time f.reach) in
       let back : t.next.back ≡ false = ⊎_elim
       (λ h. let leave = o.leaves h in absurd (sync_no_leave 0 (one_emit t.next.emit f.k leave.0 (Sync 0) Leave emit leave.1).1))
-      (λ h. h) (bool_cases t.next.back) in
+      (λ h. h) (cases_Bool t.next.back) in
       let same = widened_place program y in
       record {
         x = widened program y;
@@ -368,7 +364,7 @@ module _ (image : Flash) (program : Program) (fits : ProgramFits program) (nodes
       let not_fall : program.schedule.fall ≢ end.clock = λ e.
       let f = cl.falls end.line (clocks_between program x end) mv.some few
       (subst (λ q. Reaches program.schedule x.line x.clock (clocks_between program x end) end.line q) (sym e) mv.goes) in
-      sync_no_leave 0 (some_is (Sync 0) Leave (sym f ∙ shows)) in
+      sync_no_leave 0 (same_Some (Sync 0) Leave (sym f ∙ shows)) in
       let seen = subst (Seen marks (at end.line end.clock)) shows (seen_at x node apart (clocks_between program x end) end.line end.clock
       mv.some few mv.goes) in
       record {
@@ -447,7 +443,7 @@ module _ (image : Flash) (program : Program) (fits : ProgramFits program) (nodes
         omega (arith, le, few)) b.2 leave.seen))
         (cases_lt z.clock r.clock)))
         (kind_cases x.kind))
-        (bool_cases t.next.back);
+        (cases_Bool t.next.back);
   }
     where
       t : Treated image program nodes marks returns x

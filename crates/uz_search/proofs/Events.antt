@@ -1,28 +1,12 @@
 -- What an instruction emits: a return a leave, and nothing else one; and a sync event turns the level.
-use Rattle.std.proofs.Common.{◌≡◌, ℕ, zero, suc, ◌≤◌, ◌+◌, ◌-◌, Option, Some, None, Bool, true, false, not, ◌&&◌, ◌||◌, nat_eq, refl, arith}
-use Rattle.std.proofs.Common.{if◌then◌else◌}
-use Rattle.std.specs.Prelude.{⊤}
-use Rattle.uz_schedule.specs.declared.facts.Bit.{Bit}
-use Rattle.uz_schedule.specs.declared.facts.Bit.TheVariants.{Zero, One, Free, Old as OldBit}
-use Rattle.uz_schedule.specs.declared.facts.Val.{Val}
-use Rattle.uz_schedule.specs.declared.header.Head.{Head}
-use Rattle.uz_schedule.specs.declared.kinds.Kind.{Kind}
-use Rattle.uz_schedule.specs.declared.kinds.Kind.TheVariants.{Main, Handler, Alone}
-use Rattle.uz_schedule.specs.declared.lines.EventKind.{EventKind}
-use Rattle.uz_schedule.specs.declared.lines.EventKind.TheVariants.{Sync, Pixel, Sound, Leave}
-use Rattle.uz_schedule.specs.declared.states.Instance.{Instance}
-use Rattle.uz_core.specs.Core.{returns_from_interrupt}
-use Rattle.uz_core.specs.declared.machine.Effect.{Effect}
-use Rattle.uz_core.specs.declared.machine.Effect.TheVariants.{NoOperation, Store, WriteIoBit, Return}
-use Rattle.uz_range.specs.Answers.{is_single}
-use Rattle.uz_range.specs.Rules.{bst_answer}
-use Rattle.uz_transfer.specs.Emission.{level_event, toggle_event, byte_event, bit_event, emission_at, level_after}
-use Rattle.uz_transfer.specs.Kinds.{is_handler}
-use Rattle.uz_transfer.specs.Memory.{address_range}
-use Rattle.uz_transfer.specs.Refusals.{fail_of}
+use Rattle.uz_search.proofs.Common.{◌≡◌, ℕ, zero, suc, ◌≤◌, ◌+◌, ◌-◌, Option, Some, None, Bool, true, false, not, ◌&&◌, ◌||◌, nat_eq, refl}
+use Rattle.uz_search.proofs.Common.{arith, if◌then◌else◌, ⊤, Bit, Zero, One, Free, OldBit, Val, Head, Kind, Main, Handler, Alone, EventKind}
+use Rattle.uz_search.proofs.Common.{Sync, Pixel, Sound, Leave, Instance, returns_from_interrupt, Effect, NoOperation, Store, WriteIoBit}
+use Rattle.uz_search.proofs.Common.{is_single, bst_answer, emission_at, level_after, is_handler, address_range, fail_of, bit_of_bool}
+use Rattle.uz_search.proofs.Common.{span_of, value_at}
+use Rattle.uz_core.specs.declared.machine.Effect.TheVariants.{Return}
+use Rattle.uz_transfer.specs.Emission.{level_event, toggle_event, byte_event, bit_event}
 use Rattle.uz_transfer.specs.declared.fail.Fail.TheVariants.{Return as ReturnWhy}
-use Rattle.uz_transfer.specs.Transfer.{bit_of_bool}
-use Rattle.uz_transfer.specs.Values.{span_of, value_at}
 use Rattle.uz_search.proofs.Lists.{choose}
 
 -- a store's event: sync to the other level, a pixel or a sound

@@ -1,29 +1,14 @@
 -- Where an instruction leads: it takes 1 to 4 clocks, leads somewhere, and where it emits, to one place.
-use Rattle.std.proofs.Common.{◌≡◌, ℕ, suc, ◌≤◌, ◌-◌, List, [], ◌∷◌, ◌++◌, map, Option, Some, None, Bool, true, false, ◌&&◌, ◌||◌, nat_le}
-use Rattle.std.proofs.Common.{refl, sym, ap, ◌∙◌, subst, ⊎_elim, slice_get, arith}
-use Rattle.std.proofs.lemmas.Bool.Decides.{nat_tests}
-use Rattle.avr_table.specs.declared.Instr.{Instr}
-use Rattle.avr_table.specs.declared.Outcome.{Outcome}
-use Rattle.avr_table.specs.declared.Outcome.TheVariants as outcome
-use Rattle.avr_table.specs.Rows.{clocks_of}
-use Rattle.uz_core.specs.Core.{returns_from_interrupt}
-use Rattle.uz_core.specs.Effects.{effect_of}
-use Rattle.uz_core.specs.declared.machine.Effect.{Effect}
-use Rattle.uz_core.specs.declared.machine.Effect.TheVariants.{NoOperation, Store, WriteIoBit, Branch, SkipIf, Jump, Return, Stop}
-use Rattle.uz_core.specs.declared.machine.JumpTarget.{JumpTarget}
-use Rattle.uz_core.specs.declared.machine.JumpTarget.TheVariants.{Absolute, Relative, Indirect}
+use Rattle.uz_search.proofs.Common.{◌≡◌, ℕ, suc, ◌≤◌, ◌-◌, List, [], ◌∷◌, ◌++◌, map, Option, Some, None, Bool, true, false, ◌&&◌, ◌||◌}
+use Rattle.uz_search.proofs.Common.{nat_le, refl, sym, ap, ◌∙◌, subst, ⊎_elim, slice_get, arith, nat_tests, Instr, Outcome, clocks_of}
+use Rattle.uz_search.proofs.Common.{returns_from_interrupt, effect_of, Effect, NoOperation, Store, WriteIoBit, Branch, SkipIf, Jump}
+use Rattle.uz_search.proofs.Common.{JumpTarget, Absolute, Relative, Indirect, Head, EventKind, Instance, Exit, emission, outcomes, targets}
+use Rattle.uz_search.proofs.Common.{jump_pcs, numbers_from, fail_of, exits_of, pair_range, Among, Flash}
+use Rattle.uz_core.specs.declared.machine.Effect.TheVariants.{Return, Stop}
+use Rattle.uz_transfer.specs.Exits.{choices, decided, flag_of_kind, test_decides, skip_outcome}
 use Rattle.uz_core.proofs.RowClocks.{clocks_within, stops}
-use Rattle.uz_schedule.specs.declared.header.Head.{Head}
-use Rattle.uz_schedule.specs.declared.lines.EventKind.{EventKind}
-use Rattle.uz_schedule.specs.declared.states.Instance.{Instance}
-use Rattle.uz_transfer.specs.declared.step.Exit.{Exit}
-use Rattle.uz_transfer.specs.Emission.{emission}
-use Rattle.uz_transfer.specs.Exits.{choices, decided, flag_of_kind, test_decides, skip_outcome, outcomes, targets, jump_pcs, numbers_from}
-use Rattle.uz_transfer.specs.Refusals.{fail_of}
-use Rattle.uz_transfer.specs.Step.{exits_of}
-use Rattle.uz_transfer.specs.Values.{pair_range}
-use Rattle.uz_search.specs.Following.{Among, Flash}
 use Rattle.uz_search.proofs.Lists.{of_map, append_cases}
+use Rattle.avr_table.specs.declared.Outcome.TheVariants as outcome
 
 -- Clocks
 

@@ -1,14 +1,7 @@
 -- Lines and clocks as positions of a frame, and places some clocks on.
-use Rattle.std.proofs.Common.{◌≡◌, ℕ, suc, ◌<◌, ◌≤◌, ◌+◌, ◌-◌, ◌⊎◌, ◌==◌, nat_lt, Bool, true, false, length, refl, sym, ap}
-use Rattle.std.proofs.Common.{◌∙◌, inl, inr, if◌then◌else◌, arith}
-use Rattle.std.proofs.lemmas.Bool.Decides.{nat_tests}
-use Rattle.uz_schedule.specs.Lines.{order_of, line_after, clock_after}
-use Rattle.uz_schedule.specs.Limits.{is_length}
-use Rattle.uz_schedule.specs.Schedule.{scanline, length_of, next_line}
-use Rattle.uz_schedule.specs.declared.lines.Schedule.{Schedule}
-use Rattle.uz_search.specs.declared.program.Program.{Program}
-use Rattle.uz_search.specs.Fitting.{ProgramFits}
-use Rattle.uz_search.specs.Following.{line_start}
+use Rattle.uz_search.proofs.Common.{◌≡◌, ℕ, suc, ◌<◌, ◌≤◌, ◌+◌, ◌-◌, ◌⊎◌, ◌==◌, nat_lt, Bool, true, false, length, refl, sym, ap, ◌∙◌, inl}
+use Rattle.uz_search.proofs.Common.{inr, if◌then◌else◌, arith, nat_tests, order_of, line_after, clock_after, is_length, scanline, length_of}
+use Rattle.uz_search.proofs.Common.{next_line, Schedule, Program, ProgramFits, line_start}
 
 -- the line after l, round the frame
 abbrev pub IsNext : Schedule → ℕ → ℕ → Type 0

@@ -1,23 +1,12 @@
 -- An instance lies in what widening makes of it.
-use Rattle.std.proofs.Common.{◌≡◌, ℕ, zero, suc, ◌≤◌, List, [], ◌∷◌, Bool, true, false, not, ◌&&◌, nat_le, nat_lt, refl, ap, ◌∙◌}
-use Rattle.std.proofs.Common.{slice_set, slice_index_or, if◌then◌else◌, arith}
-use Rattle.std.specs.Prelude.{⊤, ◌+◌, max}
-use Rattle.std.proofs.lemmas.Bool.{and_parts, eq-eqb}
-use Rattle.std.proofs.lemmas.Bool.Decides.{nat_tests}
-use Rattle.uz_schedule.specs.Ends.{Ends, is_within, whole_byte, whole_pair}
-use Rattle.uz_schedule.specs.declared.facts.Val.{Val}
-use Rattle.uz_schedule.specs.declared.facts.Val.TheVariants.{Range, Old, OldFlags}
-use Rattle.uz_schedule.specs.declared.states.Instance.{Instance}
-use Rattle.uz_transfer.specs.Refusals.{range_inside}
-use Rattle.uz_transfer.specs.Values.{pair_at, value_at}
-use Rattle.uz_rules.specs.Inside.{all_below, cells_inside, compared_inside, flags_inside, inside, pairs_inside, registers_inside}
-use Rattle.uz_rules.specs.Inside.{place_of_itself, same_place, slots_inside, value_inside, KnownInItself, PlaceHolds}
-use Rattle.uz_search.specs.declared.program.Program.{Program}
-use Rattle.uz_search.specs.declared.widening.Widening.{Widening}
-use Rattle.uz_search.specs.declared.widening.Widening.TheVariants.{Register, Pair}
-use Rattle.uz_search.specs.Widenings.{is_whole, widened_all, widened_by, widened_pair, widened_value}
-use Rattle.uz_search.specs.Loosened.{loosened, loosened_pair, loosened_register, loosened_value}
-use Rattle.uz_search.specs.Widened.{facts_at, widened}
+use Rattle.uz_search.proofs.Common.{◌≡◌, ℕ, zero, suc, ◌≤◌, List, [], ◌∷◌, Bool, true, false, not, ◌&&◌, nat_le, nat_lt, refl, ap, ◌∙◌}
+use Rattle.uz_search.proofs.Common.{slice_set, slice_index_or, if◌then◌else◌, arith, ◌+◌, max, ⊤, and_parts, eq-eqb, nat_tests, Ends}
+use Rattle.uz_search.proofs.Common.{is_within, whole_byte, whole_pair, Val, Range, Old, OldFlags, Instance, range_inside, pair_at, value_at}
+use Rattle.uz_search.proofs.Common.{all_below, cells_inside, inside, KnownInItself, PlaceHolds, Program, Widening, Register, Pair, is_whole}
+use Rattle.uz_search.proofs.Common.{widened_all, widened_by, widened_pair, widened_value, loosened, loosened_pair, loosened_register}
+use Rattle.uz_search.proofs.Common.{loosened_value, facts_at, widened}
+use Rattle.uz_rules.specs.Inside.{compared_inside, flags_inside, pairs_inside}
+use Rattle.uz_rules.specs.Inside.{registers_inside, place_of_itself, same_place, slots_inside, value_inside}
 use Rattle.uz_search.proofs.Lists.{choose}
 use Rattle.uz_search.proofs.WidenedLaws.{LeavesRest, widened_rest}
 

@@ -1,39 +1,24 @@
 -- What is known of an instance, within a kind's limits, and how writing keeps it so.
-use Rattle.std.proofs.Common.{◌≡◌, ◌≢◌, ℕ, zero, suc, ◌<◌, ◌≤◌, ◌+◌, ◌*◌, ◌⊎◌, List, [], ◌∷◌, ◌++◌, Some, Bool, true, false, ◌||◌, nat_eq}
-use Rattle.std.proofs.Common.{nat_le, refl, sym, ap, ◌∙◌, subst, inl, inr, ⊎_elim, length, slice_get, slice_set, slice_index_or, take}
-use Rattle.std.proofs.Common.{if◌then◌else◌, true≢false, arith}
-use Rattle.std.proofs.lemmas.Bool.{cases_eq}
-use Rattle.std.proofs.lemmas.Bool.Decides.{nat_tests}
-use Rattle.uz_schedule.specs.Ends.{Ends, hull, whole_pair}
-use Rattle.uz_schedule.specs.Tracked.{tracked, depth_of}
-use Rattle.uz_schedule.specs.WellFormed.{BitFits, spans_fit}
-use Rattle.uz_schedule.specs.declared.facts.Bit.{Bit}
-use Rattle.uz_schedule.specs.declared.facts.Bit.TheVariants.{Zero, One, Free, Old as OldBit}
-use Rattle.uz_schedule.specs.declared.facts.Val.{Val}
-use Rattle.uz_schedule.specs.declared.facts.Val.TheVariants.{Range}
-use Rattle.uz_schedule.specs.declared.header.Head.{Head}
-use Rattle.uz_schedule.specs.declared.kinds.Kind.{Kind}
-use Rattle.uz_schedule.specs.declared.states.Instance.{Instance}
-use Rattle.uz_range.specs.Answers.{ends}
+use Rattle.uz_search.proofs.Common.{◌≡◌, ◌≢◌, ℕ, zero, suc, ◌<◌, ◌≤◌, ◌+◌, ◌*◌, ◌⊎◌, List, [], ◌∷◌, ◌++◌, Some, Bool, true, false, ◌||◌}
+use Rattle.uz_search.proofs.Common.{nat_eq, nat_le, refl, sym, ap, ◌∙◌, subst, inl, inr, ⊎_elim, length, slice_get, slice_set}
+use Rattle.uz_search.proofs.Common.{slice_index_or, take, if◌then◌else◌, true≢false, arith, cases_eq, nat_tests, Ends, hull, whole_pair}
+use Rattle.uz_search.proofs.Common.{tracked, depth_of, BitFits, spans_fit, Bit, Zero, One, Free, OldBit, Val, Range, Head, Kind, Instance}
+use Rattle.uz_search.proofs.Common.{ends, is_old, with_slots, span_of, value_at, flag_at, pair_at, byte_hull, is_pointer, pair_number}
+use Rattle.uz_search.proofs.Common.{pair_range, with_value, with_pair_value, with_flag_list, merged_flags, Each, IsOpen, OldFits, same_Some}
+use Rattle.uz_search.proofs.Common.{slice_get-get_or, length-set, get_or-set_other, get_or-set_same}
+use Rattle.uz_transfer.specs.Values.{each_flag, pairs_after_byte, with_pair_range}
 use Rattle.uz_range.specs.Rules.{low_answer, high_answer}
-use Rattle.uz_transfer.specs.Memory.{is_old, with_slots}
-use Rattle.uz_transfer.specs.Values.{span_of, value_at, flag_at, pair_at, each_flag, byte_hull, is_pointer, pair_number, pair_range}
-use Rattle.uz_transfer.specs.Values.{pairs_after_byte, with_value, with_pair_range, with_pair_value, with_flag_list, merged_flags}
-use Rattle.uz_search.proofs.VisitingLemmas.{some_is}
-use Rattle.uz_search.specs.Limits.{Each, IsOpen, OldFits}
 use Rattle.uz_search.proofs.NewFlags.{AreNew, new_at}
+use Rattle.std.proofs.lemmas.List.{length-take}
+use Rattle.uz_search.proofs.Lists.{choose}
+use Rattle.uz_search.proofs.MarkingLemmas.{get_set_same, get_set_other}
 
 -- Lists
 
 module _ {A : Type 0} where
-  pub length_set : (xs : List A) (i : ℕ) (a : A) → length (slice_set xs i a) ≡ length xs
-  length_set [] i a = refl
-  length_set (x ∷ xs) zero a = refl
-  length_set (x ∷ xs) (suc i) a = ap suc (length_set xs i a)
-
   pub each_set : (P : A → Type 0) (xs : List A) (i : ℕ) (a : A) → Each P xs → P a → Each P (slice_set xs i a)
   each_set P [] i a each h k x at = each k x at
-  each_set P (y ∷ ys) zero a each h zero x at = subst P (some_is a x at) h
+  each_set P (y ∷ ys) zero a each h zero x at = subst P (same_Some a x at) h
   each_set P (y ∷ ys) zero a each h (suc k) x at = each (suc k) x at
   each_set P (y ∷ ys) (suc i) a each h zero x at = each 0 x at
   each_set P (y ∷ ys) (suc i) a each h (suc k) x at = each_set P ys i a (λ j z here. each (suc j) z here) h k x at
@@ -42,35 +27,6 @@ module _ {A : Type 0} where
   index_each P [] i d each h = h
   index_each P (x ∷ xs) zero d each h = each 0 x refl
   index_each P (x ∷ xs) (suc i) d each h = index_each P xs i d (λ j z here. each (suc j) z here) h
-
-  pub index_set_other : (xs : List A) (i j : ℕ) (a d : A) → (j ≡ i → ⊥) → slice_index_or (slice_set xs i a) j d ≡ slice_index_or xs j d
-  index_set_other [] i j a d ne = refl
-  index_set_other (x ∷ xs) zero zero a d ne = absurd (ne refl)
-  index_set_other (x ∷ xs) zero (suc j) a d ne = refl
-  index_set_other (x ∷ xs) (suc i) zero a d ne = refl
-  index_set_other (x ∷ xs) (suc i) (suc j) a d ne = index_set_other xs i j a d (λ e. ne (ap suc e))
-
-  pub index_set_same : (xs : List A) (i : ℕ) (a d : A) → i < length xs → slice_index_or (slice_set xs i a) i d ≡ a
-  index_set_same [] i a d h = absurd (omega (arith, h))
-  index_set_same (x ∷ xs) zero a d h = refl
-  index_set_same (x ∷ xs) (suc i) a d h = index_set_same xs i a d (omega (arith, h))
-
-  pub get_set_same : (xs : List A) (i : ℕ) (a : A) → i < length xs → slice_get (slice_set xs i a) i ≡ Some a
-  get_set_same [] i a h = absurd (omega (arith, h))
-  get_set_same (x ∷ xs) zero a h = refl
-  get_set_same (x ∷ xs) (suc i) a h = get_set_same xs i a (omega (arith, h))
-
-  pub get_set_other : (xs : List A) (i j : ℕ) (a : A) → (j ≡ i → ⊥) → slice_get (slice_set xs i a) j ≡ slice_get xs j
-  get_set_other [] i j a ne = refl
-  get_set_other (x ∷ xs) zero zero a ne = absurd (ne refl)
-  get_set_other (x ∷ xs) zero (suc j) a ne = refl
-  get_set_other (x ∷ xs) (suc i) zero a ne = refl
-  get_set_other (x ∷ xs) (suc i) (suc j) a ne = get_set_other xs i j a (λ e. ne (ap suc e))
-
-  pub get_index : (xs : List A) (i : ℕ) (d : A) → i < length xs → slice_get xs i ≡ Some (slice_index_or xs i d)
-  get_index [] i d h = absurd (omega (arith, h))
-  get_index (x ∷ xs) zero d h = refl
-  get_index (x ∷ xs) (suc i) d h = get_index xs i d (omega (arith, h))
 
   pub each_append : (P : A → Type 0) (xs ys : List A) → Each P xs → Each P ys → Each P (xs ++ ys)
   each_append P [] ys h k i x at = k i x at
@@ -82,11 +38,6 @@ module _ {A : Type 0} where
   each_take P (suc n) [] h i x at = cc
   each_take P (suc n) (y ∷ ys) h zero x at = h 0 x at
   each_take P (suc n) (y ∷ ys) h (suc i) x at = each_take P n ys (λ j z here. h (suc j) z here) i x at
-
-  pub length_take : (n : ℕ) (xs : List A) → length (take n xs) ≤ length xs
-  length_take zero xs = omega arith
-  length_take (suc n) [] = omega arith
-  length_take (suc n) (y ∷ ys) = let h = length_take n ys in omega (arith, h)
 
 -- What is known
 
@@ -140,13 +91,13 @@ module _ (head : Head) (kind : Kind) where
   -- seven flags
 
   seven : (f : ℕ → Bit) → ((k : ℕ) → BitFits kind (f k)) → Each (BitFits kind) (each_flag f)
-  seven f h zero b at = subst (BitFits kind) (some_is (f 0) b at) (h 0)
-  seven f h (suc zero) b at = subst (BitFits kind) (some_is (f 1) b at) (h 1)
-  seven f h (suc (suc zero)) b at = subst (BitFits kind) (some_is (f 2) b at) (h 2)
-  seven f h (suc (suc (suc zero))) b at = subst (BitFits kind) (some_is (f 3) b at) (h 3)
-  seven f h (suc (suc (suc (suc zero)))) b at = subst (BitFits kind) (some_is (f 4) b at) (h 4)
-  seven f h (suc (suc (suc (suc (suc zero))))) b at = subst (BitFits kind) (some_is (f 5) b at) (h 5)
-  seven f h (suc (suc (suc (suc (suc (suc zero)))))) b at = subst (BitFits kind) (some_is (f 6) b at) (h 6)
+  seven f h zero b at = subst (BitFits kind) (same_Some (f 0) b at) (h 0)
+  seven f h (suc zero) b at = subst (BitFits kind) (same_Some (f 1) b at) (h 1)
+  seven f h (suc (suc zero)) b at = subst (BitFits kind) (same_Some (f 2) b at) (h 2)
+  seven f h (suc (suc (suc zero))) b at = subst (BitFits kind) (same_Some (f 3) b at) (h 3)
+  seven f h (suc (suc (suc (suc zero)))) b at = subst (BitFits kind) (same_Some (f 4) b at) (h 4)
+  seven f h (suc (suc (suc (suc (suc zero))))) b at = subst (BitFits kind) (same_Some (f 5) b at) (h 5)
+  seven f h (suc (suc (suc (suc (suc (suc zero)))))) b at = subst (BitFits kind) (same_Some (f 6) b at) (h 6)
   seven f h (suc (suc (suc (suc (suc (suc (suc k))))))) b at = cc
 
   pub with_flags : (flags : List Bit) (x : Instance) → Known head kind x → length flags ≡ 7 → Each (BitFits kind) flags → Known head kind
@@ -170,16 +121,12 @@ module _ (head : Head) (kind : Kind) where
   pub with_merged : (keeps : ℕ → Bool) (new : List Bit) (x : Instance) → Known head kind x → AreNew new → Known head kind
       (with_flag_list (merged_flags keeps new x.flags) x)
   with_merged keeps new x h are = with_new (λ k. if keeps k then flag_at x.flags k else flag_at new k) x h
-      (λ k. either (keeps k) (flag_at x.flags k) (flag_at new k)
+      (λ k. choose (BitFits kind) (keeps k) (flag_at x.flags k) (flag_at new k)
       (index_each (BitFits kind) x.flags k Free h.flags tt) (new_fits (flag_at new k) (new_at new k are)))
-    where
-      either : (b : Bool) (c d : Bit) → BitFits kind c → BitFits kind d → BitFits kind (if b then c else d)
-      either true c d p q = p
-      either false c d p q = q
 
   pub with_one_flag : (k : ℕ) (b : Bit) (x : Instance) → Known head kind x → is_old b ≡ false → Known head kind
       (with_flag_list (slice_set x.flags k b) x)
-  with_one_flag k b x h new = with_flags (slice_set x.flags k b) x h (length_set x.flags k b ∙ h.flag_count)
+  with_one_flag k b x h new = with_flags (slice_set x.flags k b) x h (length-set x.flags k b ∙ h.flag_count)
       (each_set (BitFits kind) x.flags k b h.flags (new_fits b new))
 
   -- Registers and pairs
@@ -187,8 +134,8 @@ module _ (head : Head) (kind : Kind) where
   -- where the register isn't a byte of the pair the hull of its bytes stays
   hull_other : (regs : List Val) (d j : ℕ) (v : Val) → (j ≡ d → ⊥) → (j + 1 ≡ d → ⊥) → byte_hull (slice_set regs d v) j ≡ byte_hull regs j
   hull_other regs d j v low high =
-      ap (λ a. hull (span_of a) (span_of (value_at (slice_set regs d v) (j + 1)))) (index_set_other regs d j v (Range (ends 0 255)) low)
-      ∙ ap (λ b. hull (span_of (value_at regs j)) (span_of b)) (index_set_other regs d (j + 1) v (Range (ends 0 255)) high)
+      ap (λ a. hull (span_of a) (span_of (value_at (slice_set regs d v) (j + 1)))) (get_or-set_other regs d j v (Range (ends 0 255)) low)
+      ∙ ap (λ b. hull (span_of (value_at regs j)) (span_of b)) (get_or-set_other regs d (j + 1) v (Range (ends 0 255)) high)
 
   pub hulls_after : (x : Instance) (d : ℕ) (v : Val) → Known head kind x → (k : ℕ) → k < 3
       → slice_get (pairs_after_byte d (slice_set x.regs d v) x.pairs) k ≡ Some whole_pair
@@ -208,7 +155,7 @@ module _ (head : Head) (kind : Kind) where
           let len = h.pair_count in
           let here : Some fresh ≡ Some whole_pair = sym (get_set_same x.pairs n fresh (omega (arith, len, same, few)))
           ∙ ap (slice_get (slice_set x.pairs n fresh)) (sym same) ∙ at in
-          subst IsOpen (sym (ap (λ m. byte_hull (slice_set x.regs d v) (26 + 2 * m)) same ∙ some_is fresh whole_pair here)) whole_open)
+          subst IsOpen (sym (ap (λ m. byte_hull (slice_set x.regs d v) (26 + 2 * m)) same ∙ same_Some fresh whole_pair here)) whole_open)
           (λ (other : k ≢ n).
           let ge : 26 ≤ d = grind (arith, nat_tests) in
           let low : (26 + 2 * k ≡ d → ⊥) = λ e. other (omega (arith, e)) in
@@ -224,12 +171,12 @@ module _ (head : Head) (kind : Kind) where
   pairs_length x d regs h = by (nat_le 26 d)
     where
       by : (b : Bool) → length (if b then slice_set x.pairs (pair_number d) (byte_hull regs (26 + 2 * pair_number d)) else x.pairs) ≡ 3
-      by true = length_set x.pairs (pair_number d) (byte_hull regs (26 + 2 * pair_number d)) ∙ h.pair_count
+      by true = length-set x.pairs (pair_number d) (byte_hull regs (26 + 2 * pair_number d)) ∙ h.pair_count
       by false = h.pair_count
 
   pub with_byte : (d : ℕ) (v : Val) (x : Instance) → Known head kind x → OldFits kind v → Known head kind (with_value d v x)
   with_byte d v x h fits = record {
-    register_count = length_set x.regs d v ∙ h.register_count;
+    register_count = length-set x.regs d v ∙ h.register_count;
     registers = each_set (OldFits kind) x.regs d v h.registers fits;
     pair_count = pairs_length x d (slice_set x.regs d v) h;
     hulls = hulls_after x d v h;
@@ -259,7 +206,7 @@ module _ (head : Head) (kind : Kind) where
       n = pair_number d
 
       count : (b : Bool) → length (if b then slice_set x.pairs n e else x.pairs) ≡ 3
-      count true = length_set x.pairs n e ∙ h.pair_count
+      count true = length-set x.pairs n e ∙ h.pair_count
       count false = h.pair_count
 
       hulls : (b : Bool) → is_pointer d ≡ b → (k : ℕ) → k < 3 → slice_get (if b then slice_set x.pairs n e else x.pairs) k ≡ Some whole_pair
@@ -270,7 +217,7 @@ module _ (head : Head) (kind : Kind) where
           let here : Some e ≡ Some whole_pair = sym (get_set_same x.pairs n e (omega (arith, len, same, few)))
           ∙ ap (slice_get (slice_set x.pairs n e)) (sym same) ∙ at in
           let low : 26 + 2 * k ≡ d = let p = (pointer_place d is).0 in omega (arith, p, same) in
-          subst (λ m. IsOpen (byte_hull x.regs m)) (sym low) (whole is (some_is e whole_pair here)))
+          subst (λ m. IsOpen (byte_hull x.regs m)) (sym low) (whole is (same_Some e whole_pair here)))
           (λ (other : k ≢ n). h.hulls k few (sym (get_set_other x.pairs n k e other) ∙ at))
           (cases_eq k n)
       hulls false is k few at = h.hulls k few at
@@ -286,7 +233,7 @@ module _ (head : Head) (kind : Kind) where
           let len = h.pair_count in
           let few = p.1 in
           subst (λ m. IsOpen (byte_hull x.regs m)) p.0
-          (h.hulls (pair_number r) p.1 (get_index x.pairs (pair_number r) (ends 0 65535) (omega (arith, len, few)) ∙ ap Some e))
+          (h.hulls (pair_number r) p.1 (slice_get-get_or x.pairs (pair_number r) (ends 0 65535) (omega (arith, len, few)) ∙ ap Some e))
       by false is e = subst IsOpen (sym e) whole_open
 
   -- a pair takes the range of a copy or of a result
@@ -303,12 +250,12 @@ module _ (head : Head) (kind : Kind) where
           let place = pointer_cases d is in
           let few : d < 31 = ⊎_elim (λ e. omega (arith, e)) (λ r. ⊎_elim (λ e. omega (arith, e)) (λ e. omega (arith, e)) r) place in
           let len = h.register_count in
-          let len' = length_set x.regs d a in
+          let len' = length-set x.regs d a in
           let low : value_at (slice_set (slice_set x.regs d a) (d + 1) b) d ≡ a =
-          index_set_other (slice_set x.regs d a) (d + 1) d b (Range (ends 0 255)) (λ e. omega (arith, e)) ∙ index_set_same x.regs d a
+          get_or-set_other (slice_set x.regs d a) (d + 1) d b (Range (ends 0 255)) (λ e. omega (arith, e)) ∙ get_or-set_same x.regs d a
           (Range (ends 0 255)) (omega (arith, len, few)) in
           let high : value_at (slice_set (slice_set x.regs d a) (d + 1) b) (d + 1) ≡ b =
-          index_set_same (slice_set x.regs d a) (d + 1) b (Range (ends 0 255)) (omega (arith, len, len', few)) in
+          get_or-set_same (slice_set x.regs d a) (d + 1) b (Range (ends 0 255)) (omega (arith, len, len', few)) in
           ap (λ v. hull (span_of v) (span_of (value_at (slice_set (slice_set x.regs d a) (d + 1) b) (d + 1)))) low
           ∙ ap (λ v. hull (span_of a) (span_of v)) high
 
@@ -333,5 +280,5 @@ module _ (head : Head) (kind : Kind) where
   }
 
   pub without : (n : ℕ) (x : Instance) → Known head kind x → Known head kind (with_slots (take n x.stack.items) x)
-  without n x h = with_stack (take n x.stack.items) x h (let a = length_take n x.stack.items in let b = h.slots in omega (arith, a, b))
+  without n x h = with_stack (take n x.stack.items) x h (let b = h.slots in omega (arith, length-take n x.stack.items, b))
       (each_take (OldFits kind) n x.stack.items h.stack)

@@ -1,24 +1,17 @@
 -- A store to a tracked cell stays in the header's range of the cell.
-use Rattle.std.proofs.Common.{◌≡◌, ℕ, suc, ◌≤◌, ◌-◌, ◌⊎◌, List, [], ◌∷◌, Option, Some, None, Bool, true, false, ◌&&◌, ◌||◌, nat_eq, nat_le}
-use Rattle.std.proofs.Common.{nat_lt, refl, sym, ap, ◌∙◌, subst, inl, inr, ⊎_elim, filter, slice_set, if◌then◌else◌, true≢false, arith}
-use Rattle.std.specs.Prelude.{All}
-use Rattle.std.proofs.lemmas.Bool.Decides.{nat_tests}
-use Rattle.std.proofs.lemmas.List.Elements.{All-head, All-tail}
-use Rattle.uz_schedule.specs.Ends.{Ends, is_within}
-use Rattle.uz_schedule.specs.Tracked.{tracked, tracks as tracks_cell}
-use Rattle.uz_schedule.specs.WellFormed.{HeadFits, CellFits, spans_fit}
-use Rattle.uz_schedule.specs.declared.facts.Val.{Val}
+use Rattle.uz_search.proofs.Common.{◌≡◌, ℕ, suc, ◌≤◌, ◌-◌, ◌⊎◌, List, [], ◌∷◌, Option, Some, None, Bool, true, false, ◌&&◌, ◌||◌, nat_eq}
+use Rattle.uz_search.proofs.Common.{nat_le, nat_lt, refl, sym, ap, ◌∙◌, subst, inl, inr, ⊎_elim, slice_set, if◌then◌else◌, true≢false}
+use Rattle.uz_search.proofs.Common.{arith, All, nat_tests, All-head, All-tail, Ends, is_within, tracked, HeadFits, spans_fit, Val, Head}
+use Rattle.uz_search.proofs.Common.{Kind, Main, Handler, Alone, is_single, cell_place, cell_range, may_store, range_inside, span_of}
+use Rattle.uz_search.proofs.Common.{and_parts, same_Some}
+use Rattle.std.proofs.Common.{filter}
+use Rattle.uz_schedule.specs.Tracked.{tracks as tracks_cell}
+use Rattle.uz_schedule.specs.WellFormed.{CellFits}
+use Rattle.uz_transfer.specs.Kinds.{tracks, place_from, range_from, misses}
+use Rattle.uz_transfer.specs.Refusals.{cell_admits}
 use Rattle.uz_schedule.specs.declared.header.Cell.{Cell}
-use Rattle.uz_schedule.specs.declared.header.Head.{Head}
-use Rattle.uz_schedule.specs.declared.kinds.Kind.{Kind}
-use Rattle.uz_schedule.specs.declared.kinds.Kind.TheVariants.{Main, Handler, Alone}
 use Rattle.uz_schedule.specs.declared.kinds.Owner.{Owner}
 use Rattle.uz_schedule.specs.declared.kinds.Owner.TheVariants.{Main as MainOwner, Handler as HandlerOwner}
-use Rattle.uz_range.specs.Answers.{is_single}
-use Rattle.uz_transfer.specs.Kinds.{tracks, place_from, cell_place, range_from, cell_range, misses}
-use Rattle.uz_transfer.specs.Refusals.{cell_admits, may_store, range_inside}
-use Rattle.uz_transfer.specs.Values.{span_of}
-use Rattle.uz_search.proofs.VisitingLemmas.{some_is}
 
 -- both definitions of what a kind tracks
 same_tracks : (kind : Kind) (owner : Owner) → tracks kind owner ≡ tracks_cell kind owner
@@ -27,10 +20,6 @@ same_tracks Main HandlerOwner = refl
 same_tracks Handler MainOwner = refl
 same_tracks Handler HandlerOwner = refl
 same_tracks Alone owner = refl
-
-both_true : (a b : Bool) → (a && b) ≡ true → (a ≡ true) × (b ≡ true)
-both_true true b h = (refl, h)
-both_true false b h = absurd (true≢false (sym h))
 
 -- the tracked cells among these, of which n came before, keep their ranges where the cell at an address takes a range in its own
 abbrev Keeps : List Cell → List Ends → ℕ → ℕ → Ends → Type 0
@@ -41,14 +30,14 @@ first_set : (c : Cell) (rest : List Cell) (spans : List Ends) (n j : ℕ) (v : E
 first_set c rest [] n j v same inside fit = absurd (true≢false (sym fit))
 first_set c rest (s ∷ spans) n j v same inside fit =
     let zero_is : j - n ≡ 0 = omega (arith, same) in
-    let later = (both_true (is_within s c.range) (spans_fit rest spans) fit).1 in
+    let later = (and_parts (is_within s c.range) (spans_fit rest spans) fit).1 in
     (omega (arith, same), ap (λ m. spans_fit (c ∷ rest) (slice_set (s ∷ spans) m v)) zero_is ∙ (λ i. inside i && later i))
 
 later_set : (c : Cell) (rest : List Cell) (spans : List Ends) (n j : ℕ) (v : Ends) → spans_fit (c ∷ rest) spans ≡ true
     → ((ss : List Ends) → spans_fit rest ss ≡ true → Keeps rest ss (suc n) j v) → Keeps (c ∷ rest) spans n j v
 later_set c rest [] n j v fit more = absurd (true≢false (sym fit))
 later_set c rest (s ∷ spans) n j v fit more =
-    let b = both_true (is_within s c.range) (spans_fit rest spans) fit in
+    let b = and_parts (is_within s c.range) (spans_fit rest spans) fit in
     let r = more spans b.1 in
     let le = r.0 in
     let next : j - n ≡ suc (j - suc n) = omega (arith, le) in
@@ -65,7 +54,7 @@ one_set : (here mine : Bool) (c : Cell) (rest : List Cell) (spans : List Ends) (
     → ((m : ℕ) (ss : List Ends) → place m ≡ Some j → range ≡ Some e → spans_fit rest ss ≡ true → Keeps rest ss m j v)
     → Keeps (if mine then c ∷ rest else rest) spans n j v
 one_set true true c rest spans n j e v place range at is inside fit more =
-    first_set c rest spans n j v (some_is n j at) (subst (λ z. range_inside v z ≡ true) (sym (some_is c.range e is)) inside) fit
+    first_set c rest spans n j v (same_Some n j at) (subst (λ z. range_inside v z ≡ true) (sym (same_Some c.range e is)) inside) fit
 one_set true false c rest spans n j e v place range at is inside fit more = cc
 one_set false true c rest spans n j e v place range at is inside fit more = later_set c rest spans n j v fit
     (λ ss fits. more (suc n) ss at is fits)
@@ -111,7 +100,7 @@ place_missed : (kind : Kind) (cells : List Cell) (n at j : ℕ) (a : Ends) → a
     cells n at ≡ Some j → ⊥
 place_missed kind [] n at j a low high missed h = cc
 place_missed kind (c ∷ cells) n at j a low high missed h =
-    let b = both_true (nat_lt c.at a.lo || nat_lt a.hi c.at) (misses cells a) missed in
+    let b = and_parts (nat_lt c.at a.lo || nat_lt a.hi c.at) (misses cells a) missed in
     missed_one (nat_eq c.at at) (tracks kind c.owner) c n at j a (λ m. place_from kind cells m at) refl low high b.0 h
     (λ m later. place_missed kind cells m at j a low high b.1 later)
 
@@ -137,19 +126,19 @@ pub store_keeps : (head : Head) (kind : Kind) (a : Ends) (v : Val) (spans : List
 store_keeps head kind a v spans j fits single may place fit = ⊎_elim
     (λ (io : (is_single a && (nat_le 0x20 a.lo && nat_le a.lo 0xFF)) ≡ true).
     let high = place_high head kind head.cells.items 0 a.lo j fits.cells place in
-    let low = (both_true (nat_le 0x20 a.lo) (nat_le a.lo 0xFF) (both_true (is_single a) (nat_le 0x20 a.lo && nat_le a.lo 0xFF) io).1).1 in
+    let low = (and_parts (nat_le 0x20 a.lo) (nat_le a.lo 0xFF) (and_parts (is_single a) (nat_le 0x20 a.lo && nat_le a.lo 0xFF) io).1).1 in
     absurd (above a.lo high low))
     (λ rest. ⊎_elim
     (λ (cell : (is_single a && cell_admits (cell_place head kind a.lo) (cell_range head a.lo) (span_of v)) ≡ true).
     let ad = admitted (cell_place head kind a.lo) (cell_range head a.lo) (span_of v)
-    (both_true (is_single a) (cell_admits (cell_place head kind a.lo) (cell_range head a.lo) (span_of v)) cell).1 in
+    (and_parts (is_single a) (cell_admits (cell_place head kind a.lo) (cell_range head a.lo) (span_of v)) cell).1 in
     let kept = cell_set kind head.cells.items spans 0 j a.lo ad.own (span_of v) place ad.is ad.inside fit in
     let same : j - 0 ≡ j = omega arith in
     subst (λ m. spans_fit (tracked head kind) (slice_set spans m (span_of v)) ≡ true) same kept.1)
     (λ (ram : ((nat_le 0x100 a.lo && nat_le a.hi 0x10FF) && ((nat_lt a.hi head.lo || nat_lt head.hi a.lo) && misses head.cells.items a))
     ≡ true).
-    let missed = (both_true (nat_lt a.hi head.lo || nat_lt head.hi a.lo) (misses head.cells.items a)
-    (both_true (nat_le 0x100 a.lo && nat_le a.hi 0x10FF) ((nat_lt a.hi head.lo || nat_lt head.hi a.lo) && misses head.cells.items a)
+    let missed = (and_parts (nat_lt a.hi head.lo || nat_lt head.hi a.lo) (misses head.cells.items a)
+    (and_parts (nat_le 0x100 a.lo && nat_le a.hi 0x10FF) ((nat_lt a.hi head.lo || nat_lt head.hi a.lo) && misses head.cells.items a)
     ram).1).1 in
     let same : a.hi ≡ a.lo = single_is a.lo a.hi single in
     absurd (place_missed kind head.cells.items 0 a.lo j a refl same missed place))

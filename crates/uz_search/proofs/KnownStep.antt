@@ -1,56 +1,33 @@
 -- What an instruction makes of what is known stays within limits.
-use Rattle.std.proofs.Common.{◌≡◌, ℕ, zero, suc, ◌<◌, ◌≤◌, ◌+◌, ◌-◌, ◌*◌, ◌/◌, ◌%◌, List, [], ◌∷◌, ◌++◌, Option, Some, None, Bool, true}
-use Rattle.std.proofs.Common.{false, not, ◌&&◌, nat_eq, nat_le, nat_lt, refl, sym, subst, length, length-append, slice_set, take}
-use Rattle.std.proofs.Common.{if◌then◌else◌, true≢false, arith}
-use Rattle.std.proofs.lemmas.Bool.Decides.{nat_tests}
+use Rattle.uz_search.proofs.Common.{◌≡◌, ℕ, zero, suc, ◌<◌, ◌≤◌, ◌+◌, ◌-◌, ◌*◌, ◌/◌, ◌%◌, List, [], ◌∷◌, ◌++◌, Option, Some, None, Bool}
+use Rattle.uz_search.proofs.Common.{true, false, not, ◌&&◌, nat_eq, nat_le, nat_lt, refl, sym, subst, length, length-append, slice_set}
+use Rattle.uz_search.proofs.Common.{take, if◌then◌else◌, true≢false, arith, nat_tests, AddressMode, Direct, PostIncrement, PreDecrement}
+use Rattle.uz_search.proofs.Common.{Effect, AddToPair, Binary, CopyByte, CopyPair, Jump, Load, LoadBit, LoadProgram, Multiply, NoOperation}
+use Rattle.uz_search.proofs.Common.{PopByte, PushByte, Store, StoreBit, Unary, WriteFlag, Operand, Constant, Ends, tracked, depth_of}
+use Rattle.uz_search.proofs.Common.{BitFits, HeadFits, spans_fit, Bit, Zero, One, Free, OldBit, Val, Range, Old, OldFlags, Head, Kind, Main}
+use Rattle.uz_search.proofs.Common.{Handler, Alone, Instance, is_known, is_single, bst_answer, known_operand, operation_answer}
+use Rattle.uz_search.proofs.Common.{is_same_register, unary_answer, add_to_pair_answer, factors_answer, cell_place, cell_range, is_handler}
+use Rattle.uz_search.proofs.Common.{is_main, with_slots, is_old, address_range, with_pointer_range, with_cell, with_stored, stored_in}
+use Rattle.uz_search.proofs.Common.{fail_of, flag_fails, mask_fails, may_store, bit_of_bool, transfer, exact_pair, known_byte, merged_flags}
+use Rattle.uz_search.proofs.Common.{pair_range, span_of, value_at, with_flag_list, with_pair_value, Flash, Each, OldFits, not-false}
+use Rattle.uz_core.specs.declared.machine.AddressMode.TheVariants.{Displacement}
+use Rattle.uz_core.specs.declared.machine.Effect.TheVariants.{Return}
+use Rattle.uz_core.specs.declared.machine.Operand.TheVariants.{Register}
+use Rattle.uz_range.specs.Rules.{pair_add_answer, pair_sub_answer}
+use Rattle.uz_transfer.specs.Arithmetic.{operation_value, is_self_copy, binary_keeps, unary_keeps, pair_keeps, product_keeps}
+use Rattle.uz_transfer.specs.Kinds.{depth_limit}
+use Rattle.uz_transfer.specs.Memory.{all_flags, sreg_value, flags_from, flags_number, cell_value, value_at_address, loaded_value}
+use Rattle.uz_transfer.specs.Memory.{flash_value, slot_value, depth_of as slots_of}
+use Rattle.uz_transfer.specs.Transfer.{pc_values}
+use Rattle.uz_transfer.specs.Values.{any_byte}
 use Rattle.uz_core.specs.Arithmetic.{bit_value}
-use Rattle.uz_core.specs.declared.machine.AddressMode.{AddressMode}
-use Rattle.uz_core.specs.declared.machine.AddressMode.TheVariants.{Direct, Displacement, PostIncrement, PreDecrement}
-use Rattle.uz_core.specs.declared.machine.Effect.{Effect}
-use Rattle.uz_core.specs.declared.machine.Effect.TheVariants.{AddToPair, Binary, CopyByte, CopyPair, Jump, Load, LoadBit, LoadProgram, Multiply}
-use Rattle.uz_core.specs.declared.machine.Effect.TheVariants.{NoOperation, PopByte, PushByte, Return, Store, StoreBit, Unary, WriteFlag}
-use Rattle.uz_core.specs.declared.machine.Operand.{Operand}
-use Rattle.uz_core.specs.declared.machine.Operand.TheVariants.{Constant, Register}
-use Rattle.uz_schedule.specs.Ends.{Ends}
-use Rattle.uz_schedule.specs.Tracked.{tracked, depth_of}
-use Rattle.uz_schedule.specs.WellFormed.{BitFits, HeadFits, spans_fit}
-use Rattle.uz_schedule.specs.declared.facts.Bit.{Bit}
-use Rattle.uz_schedule.specs.declared.facts.Bit.TheVariants.{Zero, One, Free, Old as OldBit}
-use Rattle.uz_schedule.specs.declared.facts.Val.{Val}
-use Rattle.uz_schedule.specs.declared.facts.Val.TheVariants.{Range, Old, OldFlags}
-use Rattle.uz_schedule.specs.declared.header.Head.{Head}
-use Rattle.uz_schedule.specs.declared.kinds.Kind.{Kind}
-use Rattle.uz_schedule.specs.declared.kinds.Kind.TheVariants.{Main, Handler, Alone}
-use Rattle.uz_schedule.specs.declared.states.Instance.{Instance}
-use Rattle.uz_range.specs.Answers.{is_known, is_single}
-use Rattle.uz_range.specs.Rules.{bst_answer, pair_add_answer, pair_sub_answer}
-use Rattle.uz_transfer.specs.declared.fail.Fail.{Fail}
-use Rattle.uz_transfer.specs.declared.fail.Fail.TheVariants as why
-use Rattle.uz_transfer.specs.Arithmetic.{known_operand, operation_answer, operation_value, is_same_register, is_self_copy, binary_keeps}
-use Rattle.uz_transfer.specs.Arithmetic.{unary_answer, unary_keeps, add_to_pair_answer, pair_keeps, factors_answer, product_keeps}
-use Rattle.uz_transfer.specs.Kinds.{cell_place, cell_range, depth_limit, is_handler, is_main}
-use Rattle.uz_transfer.specs.Memory.{with_slots, all_flags, is_old, sreg_value, flags_from, flags_number, address_range, with_pointer_range}
-use Rattle.uz_transfer.specs.Memory.{cell_value, value_at_address, loaded_value, flash_value, with_cell, with_stored, stored_in, slot_value}
-use Rattle.uz_transfer.specs.Memory.{depth_of as slots_of}
-use Rattle.uz_transfer.specs.Refusals.{fail_of, flag_fails, mask_fails, may_store, refuse_if}
-use Rattle.uz_transfer.specs.Transfer.{bit_of_bool, pc_values, transfer}
-use Rattle.uz_transfer.specs.Values.{any_byte, exact_pair, known_byte, merged_flags, pair_range, span_of, value_at, with_flag_list}
-use Rattle.uz_transfer.specs.Values.{with_pair_value}
-use Rattle.uz_search.specs.Following.{Flash}
+use Rattle.uz_search.proofs.TimerLaws.{refused}
 use Rattle.uz_search.proofs.Lists.{choose}
-use Rattle.uz_search.specs.Limits.{Each, OldFits}
-use Rattle.uz_search.proofs.Known.{Known, each_append, slot_fits, value_fits, whole_bytes, with_byte, with_copied, with_flags}
-use Rattle.uz_search.proofs.Known.{with_merged, with_new, with_one_flag, with_result, with_stack, without}
+use Rattle.uz_search.proofs.Known.{Known, each_append, slot_fits, value_fits, whole_bytes, with_byte, with_copied, with_flags, with_merged}
+use Rattle.uz_search.proofs.Known.{with_new, with_one_flag, with_result, with_stack, without}
 use Rattle.uz_search.proofs.KnownCells.{store_keeps}
 use Rattle.uz_search.proofs.NewFlags.{bst_new, factors_new, operation_new, pair_new, unary_new}
-
-refused : (b : Bool) (reason : Fail) (later : Option Fail) → refuse_if b reason later ≡ None → (b ≡ false) × (later ≡ None)
-refused true reason later h = cc
-refused false reason later h = (refl, h)
-
-not_false : (b : Bool) → not b ≡ false → b ≡ true
-not_false true h = refl
-not_false false h = absurd (true≢false h)
+use Rattle.uz_transfer.specs.declared.fail.Fail.TheVariants as why
 
 same_depth : (head : Head) (kind : Kind) → depth_limit head kind ≡ depth_of head kind
 same_depth head Main = refl
@@ -211,7 +188,7 @@ module _ (head : Head) (x : Instance) (h : Known head x.kind x) where
       let mask = refused (is_single a && mask_fails x.kind a.lo v) why.Mask _ flag.1 in
       let may = refused (not (may_store head x.kind a v)) why.Store _ mask.1 in
       pointer_known to (stored_in head a v x) (stored_known a v fits (value_fits head x.kind x r h)
-      (not_false (may_store head x.kind a v) may.0))
+      (not-false (may_store head x.kind a v) may.0))
   transfer_known image following sampled (PushByte r) fits fine =
       let full = (refused (nat_le (depth_limit head x.kind) (slots_of x)) why.Stack None fine).0 in
       let limit = same_depth head x.kind in

@@ -1,29 +1,13 @@
 -- The level of each instance is that of the last sync event before it.
-use Rattle.std.proofs.Common.{◌≡◌, ◌≢◌, ℕ, ◌<◌, ◌≤◌, ◌+◌, ◌-◌, ◌%◌, ◌⊎◌, List, map, Option, Some, None, true, false, refl, sym, ap}
-use Rattle.std.proofs.Common.{◌∙◌, subst, inl, inr, ⊎_elim, length, slice_get, if◌then◌else◌, arith}
-use Rattle.std.specs.List.{flat_map}
-use Rattle.std.proofs.lemmas.Bool.{cases_lt}
-use Rattle.std.proofs.Math.Nat.{mod-add-mod, mod-eq_of_lt, mod-lt, add-mod_right}
-use Rattle.uz_schedule.specs.Schedule.{length_of, start_of, frame_of}
-use Rattle.uz_schedule.proofs.Starts.{place_below}
-use Rattle.uz_schedule.specs.declared.lines.Schedule.{Schedule}
-use Rattle.uz_schedule.specs.declared.states.Instance.{Instance}
-use Rattle.uz_schedule.specs.declared.kinds.Kind.TheVariants.{Main}
-use Rattle.uz_schedule.specs.declared.lines.EventKind.{EventKind}
-use Rattle.uz_schedule.specs.declared.lines.EventKind.TheVariants.{Sync, Pixel, Sound, Leave}
-use Rattle.uz_rules.specs.EdgeRule.{position_of}
-use Rattle.uz_search.specs.declared.marks.Mark.{Mark}
-use Rattle.uz_search.specs.declared.program.Program.{Program}
-use Rattle.uz_search.specs.declared.returns.Return.{Return}
-use Rattle.uz_search.specs.Fitting.{ProgramFits}
-use Rattle.uz_search.specs.Pieces.{pieces}
-use Rattle.uz_search.specs.Following.{split_at, Among, Flash, Follows, entries, lines_of, line_on, clock_on, most_clocks, clocks_between, shown_at}
-use Rattle.uz_search.specs.Marking.{Seen}
+use Rattle.uz_search.proofs.Common.{◌≡◌, ◌≢◌, ℕ, ◌<◌, ◌≤◌, ◌+◌, ◌-◌, ◌%◌, ◌⊎◌, List, map, Option, Some, None, true, false, refl, sym, ap}
+use Rattle.uz_search.proofs.Common.{◌∙◌, subst, inl, inr, ⊎_elim, length, slice_get, if◌then◌else◌, arith, flat_map, cases_lt, cases_Bool}
+use Rattle.uz_search.proofs.Common.{mod-add-mod, mod-eq_of_lt, mod-lt, add-mod_right, length_of, start_of, frame_of, place_below, Schedule}
+use Rattle.uz_search.proofs.Common.{Instance, Main, EventKind, Sync, Pixel, Sound, Leave, position_of, Mark, pieces, split_at, Among}
+use Rattle.uz_search.proofs.Common.{Follows, entries, lines_of, line_on, clock_on, most_clocks, clocks_between, shown_at, Seen, Treated}
+use Rattle.uz_search.proofs.Common.{widened}
 use Rattle.uz_search.specs.Returning.{Noted}
-use Rattle.uz_search.specs.Searching.{IsSearch, Treated}
-use Rattle.uz_search.specs.Widened.{widened}
 use Rattle.uz_search.proofs.FramePlaces.{IsNext, Reaches, at, length_some}
-use Rattle.uz_search.proofs.Lists.{kind_cases, bool_cases, of_flat}
+use Rattle.uz_search.proofs.Lists.{kind_cases, of_flat}
 use Rattle.uz_search.proofs.MarkingLemmas.{seen_once}
 use Rattle.uz_search.proofs.PiecesLaws.{from_result, result_place}
 use Rattle.uz_search.proofs.Results.{Moves, apart_main}
@@ -31,8 +15,8 @@ use Rattle.uz_search.proofs.SearchingLemmas.{tree_all}
 use Rattle.uz_search.proofs.WidenedLaws.{widened_place}
 use Rattle.uz_search.proofs.NodeLaws.{Owes, Before, entry_place, start_place}
 use Rattle.uz_search.proofs.Closing.{shown_is, shown_here, one_emit, clocks_few}
-use Rattle.uz_search.proofs.Coverage as cover
 use Rattle.uz_search.proofs.Positions.{one_place, reach_position}
+use Rattle.uz_search.proofs.Coverage as cover
 
 -- at this clock, counted without end, sync v is marked: at the clock of a line that it is, round the frame
 pub record SyncAt (s : Schedule) (marks : List Mark) (p v : ℕ) : Type 0 where
@@ -83,9 +67,13 @@ back_mod frame x n a some h le below =
     absurd (omega (arith, e, f, small, le, ge)))
     (cases_lt (r + n) frame)
 
-module _ (image : Flash) (program : Program) (fits : ProgramFits program) (nodes : List Instance) (parents : List (Option ℕ))
-    (marks : List Mark) (returns : List (Option Return))
-    (s : IsSearch image program nodes parents marks returns (length nodes)) where
+module _ (ended : cover.Ended) where
+  open ended use {image, program, fits, s}
+  open ended.found.nodes use {keys as nodes}
+  open ended.found.parents use {items as parents}
+  open ended.found.marks use {items as marks}
+  open ended.found.returns use {items as returns}
+
   abbrev pub Syncs : ℕ → ℕ → Type 0
   Syncs p v = SyncAt program.schedule marks p v
 
@@ -112,7 +100,7 @@ module _ (image : Flash) (program : Program) (fits : ProgramFits program) (nodes
   Good x = LevelAt program.schedule marks (position_of program.schedule x) x.level
 
   abbrev T : (x : Instance) → Among nodes x → Treated image program nodes marks returns x
-  T x node = cover.treated image program fits nodes parents marks returns s x node
+  T x node = cover.treated ended x node
 
   -- a sync event that is marked where an instance passes is what it shows
   sync_shown : (x : Instance) (node : Among nodes x) → x.kind ≢ Main → (p k v : ℕ)
@@ -121,8 +109,8 @@ module _ (image : Flash) (program : Program) (fits : ProgramFits program) (nodes
   sync_shown x node apart p k v place some few h =
       let l : ℕ = line_on program x k in
       let q : ℕ = clock_on program x k in
-      let goes = cover.passed image program fits nodes parents marks returns s x node apart k few in
-      let stands = cover.stands image program fits nodes parents marks returns s x node in
+      let goes = cover.passed ended x node apart k few in
+      let stands = cover.stands ended x node in
       let there = reach_position program.schedule x.line x.clock k l q p stands.line goes place in
       let one = one_place program.schedule h.line h.clock l q h.in_line goes.0 (sym h.place ∙ there) in
       let same : at h.line h.clock ≡ at l q = ap (λ m. at m h.clock) one.0 ∙ ap (at l) one.1 in
@@ -132,9 +120,9 @@ module _ (image : Flash) (program : Program) (fits : ProgramFits program) (nodes
   place_at_result : (x : Instance) (node : Among nodes x) → x.kind ≢ Main → (y : Instance) → Among (T x node).next.out.items y
       → (g : Good x) → (g.p + clocks_between program x y) % frame_of program.schedule ≡ position_of program.schedule y
   place_at_result x node apart y there g =
-      let mv = (cover.owed image program fits nodes parents marks returns s x node apart).moves y there in
+      let mv = (cover.owed ended x node apart).moves y there in
       reach_position program.schedule x.line x.clock (clocks_between program x y) y.line y.clock g.p
-      (cover.stands image program fits nodes parents marks returns s x node).line mv.goes g.at
+      (cover.stands ended x node).line mv.goes g.at
 
   -- the level at a result
   level_at_result : (x : Instance) (node : Among nodes x) → x.kind ≢ Main → (i : ℕ) (y : Instance) → slice_get (T x node).next.out.items
@@ -147,11 +135,11 @@ module _ (image : Flash) (program : Program) (fits : ProgramFits program) (nodes
       let here : Syncs (g.p + c) v = record {
         line = y.line;
         clock = y.clock;
-        below = cover.result_line image program fits nodes parents marks returns s x node apart y there;
+        below = cover.result_line ended x node apart y there;
         in_line = mv.goes.0;
         place = place_at_result x node apart y there g;
         seen = subst (Seen marks (at y.line y.clock)) shows
-            (cover.seen_at image program fits nodes parents marks returns s x node apart c y.line y.clock mv.some few mv.goes);
+            (cover.seen_at ended x node apart c y.line y.clock mv.some few mv.goes);
       } in
       subst (Level (g.p + c)) (sym (o.syncs sync.0 v y sync.2 there).0)
       (record { last = g.p + c; le = omega arith; sync = here; quiet = λ j after le. absurd (omega (arith, after, le)) }))
@@ -165,7 +153,7 @@ module _ (image : Flash) (program : Program) (fits : ProgramFits program) (nodes
       t = T x node
 
       o : Owes program x t.next
-      o = cover.owed image program fits nodes parents marks returns s x node apart
+      o = cover.owed ended x node apart
 
       there : Among t.next.out.items y
       there = (i, out)
@@ -200,7 +188,7 @@ module _ (image : Flash) (program : Program) (fits : ProgramFits program) (nodes
   early_quiet : (l q : ℕ) → q < program.schedule.fall → (v : ℕ) → Seen marks (at l q) (Some (Sync v)) → ⊥
   early_quiet l q below v h =
       let f = fits.fall_in_line l in
-      let a = cover.steady_above image program fits nodes parents marks returns s l q (Sync v) (omega (arith, f, below)) h in
+      let a = cover.steady_above ended l q (Sync v) (omega (arith, f, below)) h in
       omega (arith, a, below)
 
   good_entry : (x : Instance) (node : Among nodes x) → x.kind ≢ Main → (end e : Instance) → (T x node).next.back ≡ true
@@ -212,8 +200,7 @@ module _ (image : Flash) (program : Program) (fits : ProgramFits program) (nodes
         (level_more p gap end.level (level_at_result x node apart 0 end out g) (λ k some le. ⊎_elim
         (λ (on_line : end.clock + k < long).
         no_sync_at (p + k) end.line (end.clock + k) on_line (step k end.line (end.clock + k) (on_line, inl (refl, refl))) (λ v h.
-        cover.quiet_after image program fits nodes parents marks returns s end.line noted.0 (end.clock + k) (Sync v) noted.1
-        (let c = noted.2.0 in omega (arith, c, some)) on_line h))
+        cover.quiet_after ended end.line noted.0 (end.clock + k) (Sync v) noted.1 (let c = noted.2.0 in omega (arith, c, some)) on_line h))
         (λ (past : long ≤ end.clock + k).
         let q : ℕ = end.clock + k - long in
         let below : q < program.schedule.fall = (let c = law.0.clock in let r = reach_is in omega (arith, c, r, le)) in
@@ -226,14 +213,13 @@ module _ (image : Flash) (program : Program) (fits : ProgramFits program) (nodes
       t = T x node
 
       o : Owes program x t.next
-      o = cover.owed image program fits nodes parents marks returns s x node apart
+      o = cover.owed ended x node apart
 
       mv : Moves program x end
       mv = o.moves end (0, out)
 
       law : Before program e × IsNext program.schedule end.line e.line × (e.level ≡ end.level)
-      law = entry_place program end e (cover.entered image program fits nodes parents marks returns s x node back)
-          (cover.result_line image program fits nodes parents marks returns s x node apart end (0, out)) entry
+      law = entry_place program end e (cover.entered ended x node back) (cover.result_line ended x node apart end (0, out)) entry
 
       noted : Noted returns end
       noted = t.noted back end out
@@ -257,23 +243,22 @@ module _ (image : Flash) (program : Program) (fits : ProgramFits program) (nodes
       place_end = place_at_result x node apart end (0, out) g
 
       line_in : end.line < lines_of program
-      line_in = cover.result_line image program fits nodes parents marks returns s x node apart end (0, out)
+      line_in = cover.result_line ended x node apart end (0, out)
 
       step : (k l q : ℕ) → Reaches program.schedule end.line end.clock k l q
           → (p + k) % frame_of program.schedule ≡ start_of program.schedule l + q
       step k l q r = reach_position program.schedule end.line end.clock k l q p line_in r place_end
 
-  pub good_kept : cover.Kept image program fits nodes parents marks returns s Good
+  pub good_kept : cover.Kept ended Good
   good_kept = record {
     result = λ x node apart y back there g. good_result x node apart y there g;
     entry = λ x node apart end e back out entry g. good_entry x node apart end e back out entry g;
   }
 
-  node_of : (l : ℕ) → l < lines_of program → cover.FallNode image program fits nodes parents marks returns s l
-  node_of l below = cover.fall_node image program fits nodes parents marks returns s l (cover.each_falls image program fits nodes parents
-      marks returns s l below)
+  node_of : (l : ℕ) → l < lines_of program → cover.FallNode ended l
+  node_of l below = cover.fall_node ended l (cover.each_falls ended l below)
 
-  good_fall : (l : ℕ) → l < lines_of program → (n : cover.FallNode image program fits nodes parents marks returns s l) → Good n.x
+  good_fall : (l : ℕ) → l < lines_of program → (n : cover.FallNode ended l) → Good n.x
   good_fall l below n =
       let place : ℕ = start_of program.schedule l + program.schedule.fall in
       let here : place % frame_of program.schedule ≡ place =
@@ -292,7 +277,7 @@ module _ (image : Flash) (program : Program) (fits : ProgramFits program) (nodes
             below = below;
             in_line = fits.fall_in_line l;
             place = here;
-            seen = cover.steady_first image program fits nodes parents marks returns s l below;
+            seen = cover.steady_first ended l below;
           };
           quiet = λ j after le. absurd (omega (arith, after, le));
         });
@@ -307,7 +292,7 @@ module _ (image : Flash) (program : Program) (fits : ProgramFits program) (nodes
   frame_big : program.schedule.fall < frame_of program.schedule
   frame_big = let big = place_below program.schedule 0 program.schedule.fall fits.some (fits.fall_in_line 0) in omega (arith, big)
 
-  frame_some : 0 < frame_of program.schedule
+  pub frame_some : 0 < frame_of program.schedule
   frame_some = let big = frame_big in omega (arith, big)
 
   eve : Eve
@@ -317,7 +302,7 @@ module _ (image : Flash) (program : Program) (fits : ProgramFits program) (nodes
     level = subst (Level (g.p + (k - 1))) one (level_more g.p (k - 1) x.level g.level (λ j some le v h.
         let shows = sync_shown x f.node f.apart g.p j v g.at some (let few = f.few in omega (arith, le, few)) h in
         let same = (one_emit t.next.emit j k (Sync v) (Sync 0) (shown_is t.next.emit j (Sync v) shows) emit).0 in
-        omega (arith, same, le, pos)));
+        let pos = f.some in omega (arith, same, le, pos)));
   }
     where
       last : ℕ
@@ -326,20 +311,20 @@ module _ (image : Flash) (program : Program) (fits : ProgramFits program) (nodes
       below : last < lines_of program
       below = let n = fits.some in omega (arith, n)
 
-      n : cover.FallNode image program fits nodes parents marks returns s last
+      n : cover.FallNode ended last
       n = node_of last below
 
-      found : (f : cover.Falls image program fits nodes parents marks returns s 0) × Good f.x
+      found : (f : cover.Falls ended 0) × Good f.x
       found =
           let line = n.line in
           let clock = n.clock in
           let some = fits.some in
           let long : ℕ = length_of program.schedule n.x.line in
-          cover.next_fall image program fits nodes parents marks returns s Good good_kept long n.x n.node n.apart (good_fall last below n)
+          cover.next_fall ended Good good_kept long n.x n.node n.apart (good_fall last below n)
           long 0 (let few = length_some program fits n.x.line in omega (arith, few)) (omega arith)
           (fits.fall_in_line 0, inr (inl (omega (arith, line, some), refl), omega (arith, clock)))
 
-      f : cover.Falls image program fits nodes parents marks returns s 0
+      f : cover.Falls ended 0
       f = found.0
 
       g : Good f.x
@@ -351,17 +336,14 @@ module _ (image : Flash) (program : Program) (fits : ProgramFits program) (nodes
       k : ℕ
       k = f.k
 
-      pos : 1 ≤ k
-      pos = f.some
-
       t : Treated image program nodes marks returns x
       t = T x f.node
 
       o : Owes program x t.next
-      o = cover.owed image program fits nodes parents marks returns s x f.node f.apart
+      o = cover.owed ended x f.node f.apart
 
       shown : shown_at t.next.emit k ≡ Some (Sync 0)
-      shown = (cover.cleared image program fits nodes parents marks returns s x f.node f.apart).falls 0 k f.some f.few f.reach
+      shown = (cover.cleared ended x f.node f.apart).falls 0 k f.some f.few f.reach
 
       emit : t.next.emit ≡ Some (k, Sync 0)
       emit = shown_is t.next.emit k (Sync 0) shown
@@ -370,14 +352,11 @@ module _ (image : Flash) (program : Program) (fits : ProgramFits program) (nodes
       one = let e = (o.syncs k 0 o.out.0 emit (0, o.out.1)).1 in omega (arith, e)
 
       whole : g.p + (k - 1) + 1 ≡ g.p + k
-      whole = omega (arith, pos)
+      whole = let pos = f.some in omega (arith, pos)
 
       reach : (g.p + k) % frame_of program.schedule ≡ program.schedule.fall
       reach = reach_position program.schedule x.line x.clock k 0 program.schedule.fall g.p
-          (cover.stands image program fits nodes parents marks returns s x f.node).line f.reach g.at ∙ no_line
-        where
-          no_line : start_of program.schedule 0 + program.schedule.fall ≡ program.schedule.fall
-          no_line = omega arith
+          (cover.stands ended x f.node).line f.reach g.at ∙ omega arith
 
   -- at each clock of line 0 before its program.schedule.fall the level is 1
   pub record FirstLevel (q : ℕ) : Type 0 where
@@ -450,18 +429,18 @@ module _ (image : Flash) (program : Program) (fits : ProgramFits program) (nodes
       let flat : Among (flat_map (entries program) t.next.out.items) y = subst (λ l. Among l y)
       (ap (λ b. if b then flat_map (entries program) t.next.out.items else map (widened program) (pieces (split_at program x)
       t.next.out.items)) back)
-      (cover.following image program fits nodes parents marks returns s x e.node y follows) in
+      (cover.following ended x e.node y follows) in
       let from = of_flat (entries program) t.next.out.items y flat in
-      let x_apart : x.kind ≢ Main = cover.back_apart image program fits nodes parents marks returns s x e.node back in
-      let first = (cover.owed image program fits nodes parents marks returns s x e.node x_apart).out in
+      let x_apart : x.kind ≢ Main = cover.back_apart ended x e.node back in
+      let first = (cover.owed ended x e.node x_apart).out in
       record {
-        node = t.follow y (cover.following image program fits nodes parents marks returns s x e.node y follows);
+        node = t.follow y (cover.following ended x e.node y follows);
         good = λ apart. entry_good x_apart back from.0 from.1 from.2;
-        main = λ main. absurd ((entry_place program from.0 y (cover.entered image program fits nodes parents marks returns s x e.node back)
-            (cover.result_line image program fits nodes parents marks returns s x e.node x_apart from.0 from.1) from.2).0.apart main);
+        main = λ main. absurd ((entry_place program from.0 y (cover.entered ended x e.node back)
+            (cover.result_line ended x e.node x_apart from.0 from.1) from.2).0.apart main);
       })
       (λ (back : t.next.back ≡ false).
-      let f = from_result program x t.next y back (cover.following image program fits nodes parents marks returns s x e.node y follows) in
+      let f = from_result program x t.next y back (cover.following ended x e.node y follows) in
       let z = f.result in
       let z_there : Among t.next.out.items z = f.there in
       let same = result_place program x t.next y f in
@@ -469,30 +448,25 @@ module _ (image : Flash) (program : Program) (fits : ProgramFits program) (nodes
       let level : y.level ≡ z.level = same.level in
       ⊎_elim
       (λ (main : x.kind ≡ Main). record {
-        node = t.follow y (cover.following image program fits nodes parents marks returns s x e.node y follows);
-        good = λ apart. absurd (apart (kind ∙ cover.main_kind image program fits nodes parents marks returns s x e.node main z z_there));
-        main = λ _. level ∙ cover.main_level image program fits nodes parents marks returns s x e.node main z z_there ∙ e.main main;
+        node = t.follow y (cover.following ended x e.node y follows);
+        good = λ apart. absurd (apart (kind ∙ cover.main_kind ended x e.node main z z_there));
+        main = λ _. level ∙ cover.main_level ended x e.node main z z_there ∙ e.main main;
       })
       (λ (x_apart : x.kind ≢ Main). record {
-        node = t.follow y (cover.following image program fits nodes parents marks returns s x e.node y follows);
+        node = t.follow y (cover.following ended x e.node y follows);
         good = λ apart. subst Good (f.plain (apart_main x.kind x_apart)) (good_result x e.node x_apart z z_there (e.good x_apart));
-        main = λ main. absurd (((cover.owed image program fits nodes parents marks returns s x e.node x_apart).moves z z_there).apart
-            (sym kind ∙ main));
+        main = λ main. absurd (((cover.owed ended x e.node x_apart).moves z z_there).apart (sym kind ∙ main));
       })
       (kind_cases x.kind))
-      (bool_cases t.next.back)
+      (cases_Bool t.next.back)
     where
       t : Treated image program nodes marks returns x
       t = T x e.node
 
-      differ : true ≡ false → ⊥
-      differ h = cc
-
       entry_good : x.kind ≢ Main → t.next.back ≡ true → (end : Instance) → Among t.next.out.items end → Among (entries program end) y
           → Good y
       entry_good apart back end there entry =
-          good_entry x e.node apart end y back ((cover.owed image program fits nodes parents marks returns s x e.node apart).one back end
-          there) entry (e.good apart)
+          good_entry x e.node apart end y back ((cover.owed ended x e.node apart).one back end there) entry (e.good apart)
 
   -- the level of each instance is the schedule's, and main's is that of the frame's begin
   pub good_all : (x : Instance) → Among nodes x → x.kind ≢ Main → Good x

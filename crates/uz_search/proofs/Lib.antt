@@ -40,3 +40,4 @@ pub mod Positions
 pub mod ScheduleOf
 pub mod SteadyLines
 pub mod WithinLimits
+pub mod Common

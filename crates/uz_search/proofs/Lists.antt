@@ -1,14 +1,9 @@
 -- Lists that are mapped, joined and chosen from, element by element.
-use Rattle.std.proofs.Common.{◌≡◌, ◌≢◌, ℕ, zero, suc, ◌⊎◌, List, [], ◌∷◌, ◌++◌, map, Some, Bool, true, false, refl, sym, ap, ◌∙◌, subst}
-use Rattle.std.proofs.Common.{arith, ◌<◌, ◌+◌, inl, inr, ⊎_elim, slice_get, get_or, length, take, drop, append_assoc, if◌then◌else◌}
-use Rattle.std.proofs.lemmas.Bool.{cases_eq}
+use Rattle.uz_search.proofs.Common.{◌≡◌, ◌≢◌, ℕ, zero, suc, ◌⊎◌, List, [], ◌∷◌, ◌++◌, map, Some, Bool, true, false, refl, sym, ap, ◌∙◌}
+use Rattle.uz_search.proofs.Common.{subst, arith, ◌<◌, ◌+◌, inl, inr, ⊎_elim, slice_get, get_or, length, take, drop, append_assoc}
+use Rattle.uz_search.proofs.Common.{if◌then◌else◌, cases_eq, slice_get_read, same_Some, flat_map, Kind, Main, Handler, Alone, Among}
 use Rattle.std.proofs.lemmas.List.{drop_more, map_more}
-use Rattle.std.proofs.lemmas.Option.{slice_get_read}
-use Rattle.std.specs.List.{flat_map}
-use Rattle.uz_schedule.specs.declared.kinds.Kind.{Kind}
-use Rattle.uz_schedule.specs.declared.kinds.Kind.TheVariants.{Main, Handler, Alone}
-use Rattle.uz_search.specs.Following.{Among}
-use Rattle.uz_search.proofs.VisitingLemmas.{some_is, get_front}
+use Rattle.uz_search.proofs.VisitingLemmas.{get_front}
 
 pub kind_cases : (k : Kind) → (k ≡ Main) ⊎ (k ≢ Main)
 kind_cases Main = inl refl
@@ -21,10 +16,6 @@ not_in_main Main (inr h) main = cc
 not_in_main Handler h main = cc
 not_in_main Alone h main = cc
 
-pub bool_cases : (b : Bool) → (b ≡ true) ⊎ (b ≡ false)
-bool_cases true = inl refl
-bool_cases false = inr refl
-
 -- what holds of both sides of a choice
 pub choose : {A : Type 0} → (P : A → Type 0) (b : Bool) (x y : A) → P x → P y → P (if b then x else y)
 choose P true x y p q = p
@@ -33,12 +24,12 @@ choose P false x y p q = q
 module _ {A B : Type 0} where
   pub in_map : (f : A → B) (xs : List A) (i : ℕ) (x : A) → slice_get xs i ≡ Some x → slice_get (map f xs) i ≡ Some (f x)
   in_map f [] i x h = cc
-  in_map f (z ∷ zs) zero x h = ap (λ v. Some (f v)) (some_is z x h)
+  in_map f (z ∷ zs) zero x h = ap (λ v. Some (f v)) (same_Some z x h)
   in_map f (z ∷ zs) (suc i) x h = in_map f zs i x h
 
   pub of_map : (f : A → B) (xs : List A) (i : ℕ) (y : B) → slice_get (map f xs) i ≡ Some y → (x : A) × (slice_get xs i ≡ Some x) × (f x ≡ y)
   of_map f [] i y h = cc
-  of_map f (z ∷ zs) zero y h = (z, refl, some_is (f z) y h)
+  of_map f (z ∷ zs) zero y h = (z, refl, same_Some (f z) y h)
   of_map f (z ∷ zs) (suc i) y h = of_map f zs i y h
 
   -- one more of a list is mapped
@@ -59,7 +50,7 @@ module _ {A : Type 0} where
   pub in_first : (f : A → List A) (xs : List A) (x y : A) → slice_get xs 0 ≡ Some x → Among (f x) y → Among (flat_map f xs) y
   in_first f [] x y h a = cc
   in_first f (z ∷ zs) x y h a =
-      let same : x ≡ z = sym (some_is z x h) in
+      let same : x ≡ z = sym (same_Some z x h) in
       let b : Among (f z) y = subst (λ v. Among (f v) y) same a in
       (b.0, get_front (f z) (flat_map f zs) b.0 y b.1)
 
@@ -90,6 +81,6 @@ module _ {A : Type 0} where
       (λ (same : k ≡ i).
       let here : slice_get xs k ≡ Some x = subst (λ n. slice_get xs n ≡ Some x) (sym same)
       (slice_get_read xs (length xs) i x refl within is) in
-      subst P (some_is x y (sym here ∙ at)) now)
+      subst P (same_Some x y (sym here ∙ at)) now)
       (λ (other : k ≢ i). so_far k y (omega arith) at)
       (cases_eq k i)

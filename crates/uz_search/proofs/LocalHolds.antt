@@ -1,67 +1,35 @@
 -- An instance of an ended search passes the local rule.
-use Rattle.std.proofs.Common.{◌≡◌, ◌≢◌, ℕ, zero, suc, ◌<◌, ◌≤◌, ◌+◌, ◌-◌, ◌%◌, List, [], ◌∷◌, map, Option, Some, None, Result, Ok, Err}
-use Rattle.std.proofs.Common.{Bool, true, false, not, ◌&&◌, ◌||◌, nat_eq, nat_le, refl, sym, ap, ◌∙◌, subst, inl, inr, ⊎_elim, length}
-use Rattle.std.proofs.Common.{slice_get, if◌then◌else◌, arith}
+use Rattle.uz_search.proofs.Common.{◌≡◌, ◌≢◌, ℕ, zero, suc, ◌<◌, ◌≤◌, ◌+◌, ◌-◌, ◌%◌, List, [], ◌∷◌, map, Option, Some, None, Result, Ok}
+use Rattle.uz_search.proofs.Common.{Err, Bool, true, false, not, ◌&&◌, ◌||◌, nat_eq, nat_le, refl, sym, ap, ◌∙◌, subst, inl, inr, ⊎_elim}
+use Rattle.uz_search.proofs.Common.{length, slice_get, if◌then◌else◌, arith, eq-eqb, cases_Bool, mod-eq_of_lt, nat_tests, Instr, words_of}
+use Rattle.uz_search.proofs.Common.{effect_of, Effect, NoOperation, Ends, Lines, line_after, clock_after, order_of as lines_of_schedule}
+use Rattle.uz_search.proofs.Common.{length_of, frame_of, event_at, place_below, Cert, Head, Kind, Main, Handler, Alone, EventKind, Sync}
+use Rattle.uz_search.proofs.Common.{Pixel, Sound, Leave, Instance, Fail, Edge, Exit, narrowed, test_of, Step, Test, is_main, emission}
+use Rattle.uz_search.proofs.Common.{outcomes, clock_holds, fail_of, range_inside, refuse_if, IsReadAt, following_of, step_of_row}
+use Rattle.uz_search.proofs.Common.{step_unless, successor, Next, timed, next_of, results_of, position_of, all_below, cells_inside}
+use Rattle.uz_search.proofs.Common.{restored, first_exit, passes, results_plain, asks_none, decoded_same, Found, Program, ProgramFits}
+use Rattle.uz_search.proofs.Common.{Stands, Among, Flash, order_of_program, line_on, clock_on, most_clocks, clocks_between, shown_at}
+use Rattle.uz_search.proofs.Common.{Treated, same_Some}
+use Rattle.uz_core.specs.declared.machine.Effect.TheVariants.{Stop}
+use Rattle.uz_transfer.specs.declared.fail.Fail.TheVariants.{Opcode, Clock, Restore, Successor}
+use Rattle.uz_rules.specs.EdgeRule.{is_kind, is_event, is_quiet, emits_as_scheduled, each_exit, edges_fit}
+use Rattle.uz_rules.specs.Local.{compares_edges, end_of, has_successors, instance_fail, is_no_opcode, is_stop, rest_in, result_fail}
+use Rattle.uz_rules.specs.Local.{return_fail, row_emits_in_main, step_fail}
+use Rattle.uz_search.specs.Searching.{IsEnded}
 use Rattle.std.specs.Prelude.{is_none}
-use Rattle.std.proofs.lemmas.Bool.{eq-eqb}
-use Rattle.std.proofs.Math.Nat.{mod-eq_of_lt}
-use Rattle.std.proofs.lemmas.Bool.Decides.{nat_tests}
-use Rattle.avr_table.specs.declared.Instr.{Instr}
-use Rattle.avr_table.specs.Rows.{words_of}
-use Rattle.uz_core.specs.Effects.{effect_of}
-use Rattle.uz_core.specs.declared.machine.Effect.{Effect}
-use Rattle.uz_core.specs.declared.machine.Effect.TheVariants.{NoOperation, Stop}
-use Rattle.uz_schedule.specs.Ends.{Ends}
-use Rattle.uz_schedule.specs.Lines.{Lines, line_after, clock_after, order_of as lines_of_schedule}
-use Rattle.uz_schedule.specs.Schedule.{length_of, frame_of, event_at}
-use Rattle.uz_schedule.proofs.Starts.{place_below}
-use Rattle.uz_schedule.specs.declared.certificate.Cert.{Cert}
-use Rattle.uz_schedule.specs.declared.header.Head.{Head}
-use Rattle.uz_schedule.specs.declared.kinds.Kind.{Kind}
-use Rattle.uz_schedule.specs.declared.kinds.Kind.TheVariants.{Main, Handler, Alone}
-use Rattle.uz_schedule.specs.declared.lines.EventKind.{EventKind}
-use Rattle.uz_schedule.specs.declared.lines.EventKind.TheVariants.{Sync, Pixel, Sound, Leave}
-use Rattle.uz_schedule.specs.declared.states.Instance.{Instance}
-use Rattle.uz_transfer.specs.declared.fail.Fail.{Fail}
-use Rattle.uz_transfer.specs.declared.fail.Fail.TheVariants.{Opcode, Edge, Clock, Restore, Successor}
-use Rattle.uz_transfer.specs.declared.step.Exit.{Exit}
-use Rattle.uz_transfer.specs.Narrowed.{narrowed, test_of}
-use Rattle.uz_transfer.specs.declared.step.Step.{Step}
-use Rattle.uz_transfer.specs.declared.step.Test.{Test}
-use Rattle.uz_transfer.specs.declared.step.Test.TheVariants as asks
-use Rattle.uz_transfer.specs.Kinds.{is_main}
-use Rattle.uz_transfer.specs.Emission.{emission}
-use Rattle.uz_transfer.specs.Exits.{outcomes}
-use Rattle.uz_transfer.specs.InTime.{clock_holds}
-use Rattle.uz_transfer.specs.Refusals.{fail_of, range_inside, refuse_if}
-use Rattle.uz_transfer.specs.Step.{IsReadAt, following_of, step_of_row, step_unless, successor}
 use Rattle.uz_transfer.specs.Values.{span_at}
-use Rattle.uz_rules.specs.declared.next.Next.{Next}
-use Rattle.uz_rules.specs.After.{timed, next_of, results_of}
-use Rattle.uz_rules.specs.EdgeRule.{position_of, is_kind, is_event, is_quiet, emits_as_scheduled, each_exit, edges_fit}
-use Rattle.uz_rules.specs.Inside.{all_below, cells_inside, restored}
-use Rattle.uz_rules.specs.Local.{compares_edges, end_of, first_exit, has_successors, instance_fail, is_no_opcode, is_stop, rest_in}
-use Rattle.uz_rules.specs.Local.{passes, result_fail, return_fail, row_emits_in_main, step_fail}
-use Rattle.uz_rules.proofs.AfterLaws.{results_plain}
-use Rattle.uz_rules.proofs.AskedLaws.{asks_none}
-use Rattle.uz_rules.proofs.LocalLaws.{decoded_same}
-use Rattle.uz_search.specs.declared.found.Found.{Found}
-use Rattle.uz_search.specs.declared.program.Program.{Program}
-use Rattle.uz_search.specs.Fitting.{ProgramFits, Stands}
-use Rattle.uz_search.specs.Following.{Among, Flash, order_of_program, line_on, clock_on, most_clocks, clocks_between, shown_at}
-use Rattle.uz_search.specs.Searching.{IsEnded, Treated}
 use Rattle.uz_search.proofs.FramePlaces.{Reaches, at, length_some, reach_after, reach_line, between_of}
-use Rattle.uz_search.proofs.Lists.{in_map, kind_cases, bool_cases}
+use Rattle.uz_search.proofs.Lists.{in_map, kind_cases}
 use Rattle.uz_search.proofs.Exits.{exit_clocks}
 use Rattle.uz_search.proofs.OneResult.{exits_at, left_is_result}
-use Rattle.uz_search.proofs.VisitingLemmas.{some_is}
 use Rattle.uz_search.specs.Complete.{EndedPassesLocal, HasSuccessors}
 use Rattle.uz_search.specs.Made.{IsMadeOf}
 use Rattle.uz_search.proofs.Closing.{clocks_few}
 use Rattle.uz_search.proofs.NodeLaws.{Owes}
-use Rattle.uz_search.proofs.Coverage as cover
 use Rattle.uz_search.proofs.Positions.{reach_position}
 use Rattle.uz_search.proofs.ScheduleOf.{order_same, start_same, event_is, seen_shows}
+use Rattle.uz_transfer.specs.declared.step.Test.TheVariants as asks
+use Rattle.uz_search.proofs.Coverage as cover
 
 -- Tests
 
@@ -211,11 +179,14 @@ shown_end (Some e) c = ap (λ b. if b then Some e else None) (eq-eqb c c refl)
 module _ (image : Flash) (program : Program) (fits : ProgramFits program) (found : Found) (ended : IsEnded image program found)
     (cert : Cert) (made : IsMadeOf program found cert) (ids : List ℕ) (split : Option ℕ)
     (x : Instance) (node : Among found.nodes.keys x) (lies : HasSuccessors image program cert ids split x) where
+  abbrev over : cover.Ended
+  over = record { image = image; program = program; fits = fits; found = found; s = ended }
+
   abbrev t : Treated image program found.nodes.keys found.marks.items found.returns.items x
-  t = cover.treated image program fits found.nodes.keys found.parents.items found.marks.items found.returns.items ended x node
+  t = cover.treated over x node
 
   stands : Stands program x
-  stands = cover.stands image program fits found.nodes.keys found.parents.items found.marks.items found.returns.items ended x node
+  stands = cover.stands over x node
 
   -- the lines are the program's
   lines_same : lines_of_schedule cert.schedule ≡ order_of_program program
@@ -228,7 +199,7 @@ module _ (image : Flash) (program : Program) (fits : ProgramFits program) (found
     no_emission = ⊎_elim
         (λ yes. absurd (t.clear Edge (inl (refl, inl (record { row = row; reads = reads; emits = yes })))))
         (λ no. no)
-        (bool_cases (row_emits_in_main row x))
+        (cases_Bool (row_emits_in_main row x))
 
     -- Edge
 
@@ -240,7 +211,7 @@ module _ (image : Flash) (program : Program) (fits : ProgramFits program) (found
         y = successor (order_of_program program) x s.step exit
 
         o : Owes program x t.next
-        o = cover.owed image program fits found.nodes.keys found.parents.items found.marks.items found.returns.items ended x node apart
+        o = cover.owed over x node apart
 
         y_there : slice_get t.next.out.items there.0 ≡ Some y
         y_there = ap (λ l. slice_get l there.0) (s.plain (apart_main x.kind apart)) ∙ in_map (successor
@@ -271,8 +242,7 @@ module _ (image : Flash) (program : Program) (fits : ProgramFits program) (found
         event_on k low high =
             let l : ℕ = line_on program x k in
             let q : ℕ = clock_on program x k in
-            let goes = cover.passed image program fits found.nodes.keys found.parents.items found.marks.items found.returns.items ended x
-            node apart k (omega (arith, high, few)) in
+            let goes = cover.passed over x node apart k (omega (arith, high, few)) in
             let place = reach_position program.schedule x.line x.clock k l q (position_of program.schedule x) stands.line goes here in
             ap (λ n. event_at cert.schedule (n + k)) position ∙ event_is program found.marks.items cert.schedule made.schedule
             (position_of program.schedule x + k) l q (reach_line program.schedule x.line x.clock k l q stands.line goes) goes.0 place
@@ -332,8 +302,7 @@ module _ (image : Flash) (program : Program) (fits : ProgramFits program) (found
     returns back = subst (λ (z : Instance). return_fail (rest_in cert.rests z.line) z ≡ None) (sym end_is) here
       where
         apart : x.kind ≢ Main
-        apart = cover.back_apart image program fits found.nodes.keys found.parents.items found.marks.items found.returns.items ended x node
-            back
+        apart = cover.back_apart over x node back
 
         some : (y : Instance) × (slice_get t.next.out.items 0 ≡ Some y)
         some = t.some apart
@@ -343,7 +312,7 @@ module _ (image : Flash) (program : Program) (fits : ProgramFits program) (found
 
         first : (exits : List Exit) (f : Exit → Instance) → slice_get (map f exits) 0 ≡ Some end → f (first_exit exits) ≡ end
         first [] f h = cc
-        first (exit ∷ exits) f h = some_is (f exit) end h
+        first (exit ∷ exits) f h = same_Some (f exit) end h
 
         end_is : end_of cert x s.step ≡ end
         end_is = ap (λ (l : Lines). successor l x s.step (first_exit s.step.exits.items)) lines_same
@@ -358,7 +327,7 @@ module _ (image : Flash) (program : Program) (fits : ProgramFits program) (found
             let cells : end.cells.items ≡ rest.0.cells.items = ap (λ v. v.items) (sym noted.2.1) ∙ sym rest.3 in
             let kept : restored end ≡ true = ⊎_elim (λ yes. yes)
             (λ no. absurd (t.clear Restore (inr (refl, record { back = back; end = end; ends = (0, some.1); kept = no }))))
-            (bool_cases (restored end)) in
+            (cases_Bool (restored end)) in
             let inside : cells_inside end.cells.items rest.0.cells.items ≡ true = subst (λ l. cells_inside end.cells.items l ≡ true) cells
             (cells_same end.cells.items) in
             ap (λ r. return_fail r end) rest.1
@@ -374,7 +343,7 @@ module _ (image : Flash) (program : Program) (fits : ProgramFits program) (found
         (λ back. ap (λ b. if b then return_fail (rest_in cert.rests (end_of cert x s.step).line) (end_of cert x s.step) else refuse_if
         (not (has_successors cert ids split x s.step)) Successor None) (sym s.back ∙ back)
         ∙ ap (λ b. refuse_if (not b) Successor None) (goes_on back))
-        (bool_cases t.next.back)
+        (cases_Bool t.next.back)
 
     step_ok : step_fail cert ids split x (row_emits_in_main row x) (step_of_row cert.head (lines_of_schedule cert.schedule) image row x) ≡ None
     step_ok =
@@ -397,11 +366,12 @@ passes_local image p found cert ids split row x fits ended made node lies reads 
     ap (λ b. refuse_if b Opcode (instance_fail image cert ids split row (Some x)))
     (stops_none cert.head (lines_of_schedule cert.schedule) image x row s.step s.is) ∙ step_ok image p fits found ended cert made ids split x node lies row reads s
   where
-    s : HasStep p x (cover.treated image p fits found.nodes.keys found.parents.items found.marks.items found.returns.items ended x
-        node).next (step_of_row cert.head (lines_of_schedule cert.schedule) image row x)
+    over : cover.Ended
+    over = record { image = image; program = p; fits = fits; found = found; s = ended }
+
+    s : HasStep p x (cover.treated over x node).next (step_of_row cert.head (lines_of_schedule cert.schedule) image row x)
     s =
-        let a = (cover.treated image p fits found.nodes.keys found.parents.items found.marks.items found.returns.items ended x
-        node).after in
+        let a = (cover.treated over x node).after in
         let same = order_same p found.marks.items cert.schedule made.schedule in
         has_step p x _ (step_of_row cert.head (lines_of_schedule cert.schedule) image row x)
         (λ step e apart. row_unasked cert.head (lines_of_schedule cert.schedule) image x row step e apart)

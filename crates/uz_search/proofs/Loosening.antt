@@ -1,35 +1,20 @@
 -- What is left at an exit stays within limits but for pairs of which nothing is known, and loosening mends these.
-use Rattle.std.proofs.Common.{◌≡◌, ◌≢◌, ℕ, zero, suc, ◌<◌, ◌≤◌, ◌+◌, ◌*◌, List, Option, Some, None, Bool, true, refl, sym, ap, ◌∙◌}
-use Rattle.std.proofs.Common.{subst, ⊎_elim, length, slice_get, slice_set, slice_index_or, nat_lt, if◌then◌else◌, arith}
-use Rattle.std.specs.Prelude.{⊤}
-use Rattle.std.proofs.lemmas.Bool.{cases_eq}
-use Rattle.uz_schedule.specs.Ends.{Ends, hull, whole_byte, whole_pair}
-use Rattle.uz_schedule.specs.Tracked.{tracked, depth_of}
-use Rattle.uz_schedule.specs.WellFormed.{BitFits, spans_fit}
+use Rattle.uz_search.proofs.Common.{◌≡◌, ◌≢◌, ℕ, zero, suc, ◌<◌, ◌≤◌, ◌+◌, ◌*◌, List, Option, Some, None, Bool, true, refl, sym, ap, ◌∙◌}
+use Rattle.uz_search.proofs.Common.{subst, ⊎_elim, length, slice_get, slice_set, slice_index_or, nat_lt, if◌then◌else◌, arith, ⊤, cases_eq}
+use Rattle.uz_search.proofs.Common.{Ends, hull, whole_byte, whole_pair, tracked, depth_of, BitFits, spans_fit, Compared, Byte, Nothing}
+use Rattle.uz_search.proofs.Common.{PairResult, Value, Val, Range, Old, OldFlags, Head, Kind, Instance, Left, Exit, Test, is_taken, left_at}
+use Rattle.uz_search.proofs.Common.{left_of, narrowed, with_left, with_some_left, byte_hull, is_pointer, pair_number, span_of, value_at}
+use Rattle.uz_search.proofs.Common.{Each, IsOpen, OldFits, loosened, loosened_pair, loosened_register, loosened_value, is_whole, same_Some}
+use Rattle.uz_search.proofs.Common.{slice_get-get_or, length-set, get_or-set_other, get_or-set_same}
+use Rattle.uz_schedule.specs.declared.facts.Compared.TheVariants.{Pair, Result}
+use Rattle.uz_transfer.specs.Narrowed.{as_asked, byte_span, narrowed_by}
+use Rattle.uz_transfer.specs.Narrowed.{with_against_span, with_both, with_first_pair, with_one, with_one_pair, with_pair, with_span}
 use Rattle.uz_schedule.specs.declared.facts.Against.{Against}
-use Rattle.uz_schedule.specs.declared.facts.Against.TheVariants as against
-use Rattle.uz_schedule.specs.declared.facts.Compared.{Compared}
-use Rattle.uz_schedule.specs.declared.facts.Compared.TheVariants.{Byte, Nothing, Pair, PairResult, Result, Value}
-use Rattle.uz_schedule.specs.declared.facts.Val.{Val}
-use Rattle.uz_schedule.specs.declared.facts.Val.TheVariants.{Range, Old, OldFlags}
-use Rattle.uz_schedule.specs.declared.header.Head.{Head}
-use Rattle.uz_schedule.specs.declared.kinds.Kind.{Kind}
-use Rattle.uz_schedule.specs.declared.states.Instance.{Instance}
 use Rattle.uz_range.specs.Narrowing.{bit_narrowed}
-use Rattle.uz_transfer.specs.declared.narrowing.Left.{Left}
-use Rattle.uz_transfer.specs.declared.step.Exit.{Exit}
-use Rattle.uz_transfer.specs.declared.step.Test.{Test}
-use Rattle.uz_transfer.specs.declared.step.Test.TheVariants as test
-use Rattle.uz_transfer.specs.Narrowed.{as_asked, byte_span, is_taken, left_at, left_of, narrowed, narrowed_by}
-use Rattle.uz_transfer.specs.Narrowed.{with_against_span, with_both, with_first_pair, with_left, with_one, with_one_pair, with_pair}
-use Rattle.uz_transfer.specs.Narrowed.{with_some_left, with_span}
-use Rattle.uz_transfer.specs.Values.{byte_hull, is_pointer, pair_number, span_of, value_at}
-use Rattle.uz_search.specs.Limits.{Each, IsOpen, OldFits}
-use Rattle.uz_search.specs.Loosened.{loosened, loosened_pair, loosened_register, loosened_value}
-use Rattle.uz_search.specs.Widenings.{is_whole}
-use Rattle.uz_search.proofs.Known.{Known, each_set, get_index, index_each, index_set_other, index_set_same, length_set}
+use Rattle.uz_search.proofs.Known.{Known, each_set, index_each}
 use Rattle.uz_search.proofs.Lists.{choose}
-use Rattle.uz_search.proofs.VisitingLemmas.{some_is}
+use Rattle.uz_schedule.specs.declared.facts.Against.TheVariants as against
+use Rattle.uz_transfer.specs.declared.step.Test.TheVariants as test
 
 -- what is known of an instance of this kind, but for its pairs
 pub record NearlyKnown (head : Head) (kind : Kind) (x : Instance) : Type 0 where
@@ -57,7 +42,7 @@ module _ (kind : Kind) where
   span_fits : (d : ℕ) (e : Ends) (left : Left) → LeftFits kind left → LeftFits kind (with_span d e left)
   span_fits d e left h = record {
     registers = each_set (OldFits kind) left.regs d (Range e) h.registers tt;
-    register_count = length_set left.regs d (Range e) ∙ h.register_count;
+    register_count = length-set left.regs d (Range e) ∙ h.register_count;
     pair_count = h.pair_count;
   }
 
@@ -70,7 +55,7 @@ module _ (kind : Kind) where
     registers = h.registers;
     register_count = h.register_count;
     pair_count = choose (λ (l : List Ends). length l ≡ 3) (is_pointer d) (slice_set left.pairs (pair_number d) e) left.pairs
-        (length_set left.pairs (pair_number d) e ∙ h.pair_count) h.pair_count;
+        (length-set left.pairs (pair_number d) e ∙ h.pair_count) h.pair_count;
   }
 
   both_fit : (d : ℕ) (source : Against) (left : Left) (o : Option (Ends × Ends)) → LeftFits kind left
@@ -119,7 +104,7 @@ narrowed_nearly head kind asks exit z y h is = by (left_at asks (is_taken exit) 
   where
     by : (o : Option Left) → SomeLeftFits kind o → with_some_left o z ≡ Some y → NearlyKnown head kind y
     by None fit e = cc
-    by (Some left) fit e = subst (NearlyKnown head kind) (some_is (with_left left z) y e) (record {
+    by (Some left) fit e = subst (NearlyKnown head kind) (same_Some (with_left left z) y e) (record {
       register_count = fit.register_count;
       registers = fit.registers;
       pair_count = fit.pair_count;
@@ -159,7 +144,7 @@ module _ (kind : Kind) where
       (register_fits (d + 1) (loosened_register d regs) (register_fits d regs h)) h
 
 register_length : (r : ℕ) (regs : List Val) → length (loosened_register r regs) ≡ length regs
-register_length r regs = length_set regs r (loosened_value (value_at regs r))
+register_length r regs = length-set regs r (loosened_value (value_at regs r))
 
 pair_length : (pair : Ends) (d : ℕ) (regs : List Val) → length (loosened_pair pair d regs) ≡ length regs
 pair_length pair d regs = choose (λ (l : List Val). length l ≡ length regs) (is_whole pair)
@@ -168,14 +153,14 @@ pair_length pair d regs = choose (λ (l : List Val). length l ≡ length regs) (
 
 opened : (r : ℕ) (regs : List Val) → r < length regs → OpenAt (loosened_register r regs) r
 opened r regs within = subst IsOpenByte
-    (sym (index_set_same regs r (loosened_value (value_at regs r)) (Range whole_byte) within)) (loose_open (value_at regs r))
+    (sym (get_or-set_same regs r (loosened_value (value_at regs r)) (Range whole_byte) within)) (loose_open (value_at regs r))
 
 -- an open register stays so
 still_open : (r j : ℕ) (regs : List Val) → j < length regs → OpenAt regs j → OpenAt (loosened_register r regs) j
 still_open r j regs within h = ⊎_elim
     (λ (same : j ≡ r). subst (λ k. OpenAt (loosened_register k regs) j) same (opened j regs within))
     (λ (other : j ≢ r). subst IsOpenByte
-    (sym (index_set_other regs r j (loosened_value (value_at regs r)) (Range whole_byte) other)) h)
+    (sym (get_or-set_other regs r j (loosened_value (value_at regs r)) (Range whole_byte) other)) h)
     (cases_eq j r)
 
 -- both bytes are open
@@ -220,8 +205,8 @@ module _ (head : Head) (kind : Kind) (x : Instance) (h : NearlyKnown head kind x
 
   whole_at : (k : ℕ) → k < 3 → slice_get x.pairs k ≡ Some whole_pair → is_whole (slice_index_or x.pairs k whole_pair) ≡ true
   whole_at k few at = let len = h.pair_count in
-      ap is_whole (some_is (slice_index_or x.pairs k whole_pair) whole_pair
-      (sym (get_index x.pairs k whole_pair (omega (arith, few, len))) ∙ at))
+      ap is_whole (same_Some (slice_index_or x.pairs k whole_pair) whole_pair
+      (sym (slice_get-get_or x.pairs k whole_pair (omega (arith, few, len))) ∙ at))
 
   later_two : (j : ℕ) → j < 32 → OpenAt two j → OpenAt three j
   later_two j few is = stays_open (slice_index_or x.pairs 2 whole_pair) 30 j two (let len = two_count in omega (arith, few, len)) is

@@ -1,17 +1,9 @@
 -- What is kept where positions are marked.
-use Rattle.std.proofs.Common.{◌≡◌, ◌≢◌, ℕ, zero, suc, ◌<◌, ◌≤◌, ◌+◌, ◌∷◌, [], List, Option, Some, None, refl, sym, ap, ◌∙◌, subst}
-use Rattle.std.proofs.Common.{replicate, slice_get, slice_set, inl, inr, ⊎_elim, arith}
-use Rattle.std.proofs.lemmas.Bool.{cases_eq}
-use Rattle.uz_schedule.specs.declared.lines.EventKind.{EventKind}
+use Rattle.uz_search.proofs.Common.{◌≡◌, ◌≢◌, ℕ, zero, suc, ◌<◌, ◌≤◌, ◌+◌, ◌∷◌, [], List, Option, Some, None, refl, sym, ap, ◌∙◌, subst}
+use Rattle.uz_search.proofs.Common.{replicate, slice_get, slice_set, inl, inr, ⊎_elim, arith, cases_eq, EventKind, Instance, Mark, Unpassed}
+use Rattle.uz_search.proofs.Common.{Shown, Program, place_on, shown_at, mark_of, event_of_mark, Seen, MarksOne, MarksOwn, MarksAll}
+use Rattle.uz_search.proofs.Common.{same_Some, slice_get_within, length}
 use Rattle.uz_schedule.specs.declared.lines.EventKind.TheVariants as kinds
-use Rattle.uz_schedule.specs.declared.states.Instance.{Instance}
-use Rattle.uz_search.specs.declared.marks.Mark.{Mark}
-use Rattle.uz_search.specs.declared.marks.Mark.TheVariants.{Unpassed}
-use Rattle.uz_search.specs.declared.marks.Shown.{Shown}
-use Rattle.uz_search.specs.declared.program.Program.{Program}
-use Rattle.uz_search.specs.Following.{place_on, shown_at}
-use Rattle.uz_search.specs.Marking.{mark_of, event_of_mark, Seen, MarksOne, MarksOwn, MarksAll}
-use Rattle.uz_search.proofs.VisitingLemmas.{some_is}
 
 -- marks and what they stand for
 
@@ -31,20 +23,20 @@ marked (Some kinds.Leave) h = cc
 
 -- one position is marked once
 pub seen_once : (marks : List Mark) (y : ℕ) (d e : Option EventKind) → Seen marks y d → Seen marks y e → d ≡ e
-seen_once marks y d e a b = sym (event_back d) ∙ (ap event_of_mark (some_is (mark_of d) (mark_of e) (sym a ∙ b)) ∙ event_back e)
+seen_once marks y d e a b = sym (event_back d) ∙ (ap event_of_mark (same_Some (mark_of d) (mark_of e) (sym a ∙ b)) ∙ event_back e)
 
 pub none_marked : (n y : ℕ) (e : Option EventKind) → Seen (replicate n Unpassed) y e → ⊥
 none_marked zero y e h = cc
-none_marked (suc n) zero e h = marked e (sym (some_is Unpassed (mark_of e) h))
+none_marked (suc n) zero e h = marked e (sym (same_Some Unpassed (mark_of e) h))
 none_marked (suc n) (suc y) e h = none_marked n y e h
 
 -- one position
 
 module _ {A : Type 0} where
-  pub get_set_same : (xs : List A) (i : ℕ) (a b : A) → slice_get xs i ≡ Some b → slice_get (slice_set xs i a) i ≡ Some a
-  get_set_same [] i a b h = cc
-  get_set_same (x ∷ xs) zero a b h = refl
-  get_set_same (x ∷ xs) (suc i) a b h = get_set_same xs i a b h
+  pub get_set_same : (xs : List A) (i : ℕ) (a : A) → i < length xs → slice_get (slice_set xs i a) i ≡ Some a
+  get_set_same [] i a h = absurd (omega (arith, h))
+  get_set_same (x ∷ xs) zero a h = refl
+  get_set_same (x ∷ xs) (suc i) a h = get_set_same xs i a (omega (arith, h))
 
   pub get_set_other : (xs : List A) (i j : ℕ) (a : A) → (j ≡ i → ⊥) → slice_get (slice_set xs i a) j ≡ slice_get xs j
   get_set_other [] i j a ne = refl
@@ -57,7 +49,7 @@ pub marks_new : (old new : List Mark) (y : ℕ) (m : Mark) (e : Option EventKind
     → new ≡ slice_set old y (mark_of e) → MarksOne old y e None new
 marks_new old new y m e at free is = (
   (λ z d h. ⊎_elim
-      (λ same. absurd (marked d (some_is (mark_of d) m (sym (subst (λ k. Seen old k d) same h) ∙ at) ∙ free)))
+      (λ same. absurd (marked d (same_Some (mark_of d) m (sym (subst (λ k. Seen old k d) same h) ∙ at) ∙ free)))
       (λ ne. ap (λ l. slice_get l z) is ∙ (get_set_other old y z (mark_of e) ne ∙ h))
       (cases_eq z y)),
   mine,
@@ -68,7 +60,7 @@ marks_new old new y m e at free is = (
 )
   where
     mine : Seen new y e
-    mine = ap (λ l. slice_get l y) is ∙ get_set_same old y (mark_of e) m at
+    mine = ap (λ l. slice_get l y) is ∙ get_set_same old y (mark_of e) (slice_get_within old y m at)
 
 -- one position more
 module _ (p : Program) (x : Instance) (most : ℕ) (emit : Option (ℕ × EventKind))

@@ -1,33 +1,26 @@
 -- The flags of a result are new ones: none is an interrupted flag.
-use Rattle.std.proofs.Common.{◌≡◌, ◌+◌, ◌-◌, ◌*◌, ◌/◌, ◌^◌, min, max, ℕ, zero, suc, List, [], ◌∷◌, map, Option, Some, None, Bool, true}
-use Rattle.std.proofs.Common.{false, ◌&&◌, not, nat_lt, nat_le, nat_eq, refl, if◌then◌else◌, slice_set, slice_index_or}
-use Rattle.std.specs.Prelude.{⊤}
+use Rattle.uz_search.proofs.Common.{◌≡◌, ◌+◌, ◌-◌, ◌*◌, ◌/◌, min, max, ℕ, zero, suc, List, [], ◌∷◌, map, Option, Some, None, Bool, true}
+use Rattle.uz_search.proofs.Common.{false, ◌&&◌, not, nat_lt, nat_le, nat_eq, refl, if◌then◌else◌, slice_set, slice_index_or, ⊤, BinaryOp}
+use Rattle.uz_search.proofs.Common.{Operand, UnaryOp, Ends, Bit, Zero, One, Free, OldBit as Old, Instance, is_single, is_known, bst_answer}
+use Rattle.uz_search.proofs.Common.{is_same_register, operation_answer, known_operand, unary_answer, add_to_pair_answer, factors_answer}
+use Rattle.uz_search.proofs.Common.{is_old, flag_at, span_of, value_at}
+use Rattle.std.proofs.Common.{◌^◌}
+use Rattle.uz_range.specs.Answers.{is_one, least_carry, most_carry, flag_of, zero_flag, negative_flag}
+use Rattle.uz_range.specs.Answers.{negative_wide_flag, exact_answer, arithmetic_answer, logic_answer, exact_wide_answer, wide_answer}
+use Rattle.uz_range.specs.Answers.{open_wide_answer}
+use Rattle.uz_range.specs.Rules.{wrapped_sum, wrapped_difference, wrapped_pair_sum, wrapped_pair_difference, sum_answer}
+use Rattle.uz_range.specs.Rules.{difference_answer, chained_answer, chained_zero, product_answer, product_by}
+use Rattle.uz_transfer.specs.Arithmetic.{binary_answer, same_register_answer}
 use Rattle.uz_core.specs.Arithmetic.{AluResult, sum_of, difference_of, pair_sum_of, pair_difference_of, and_of, or_of, xor_of}
 use Rattle.uz_core.specs.Arithmetic.{complement_of, negation_of, increment_of, decrement_of, arithmetic_shift_of, logical_shift_of}
 use Rattle.uz_core.specs.Arithmetic.{rotation_of, bit_is_set}
-use Rattle.uz_core.specs.declared.machine.BinaryOp.{BinaryOp}
-use Rattle.uz_core.specs.declared.machine.BinaryOp.TheVariants as binary
-use Rattle.uz_core.specs.declared.machine.Operand.{Operand}
-use Rattle.uz_core.specs.declared.machine.UnaryOp.{UnaryOp}
-use Rattle.uz_core.specs.declared.machine.UnaryOp.TheVariants as unary
-use Rattle.uz_schedule.specs.Ends.{Ends}
-use Rattle.uz_schedule.specs.declared.facts.Bit.{Bit}
-use Rattle.uz_schedule.specs.declared.facts.Bit.TheVariants.{Zero, One, Free, Old}
-use Rattle.uz_schedule.specs.declared.states.Instance.{Instance}
 use Rattle.uz_range.specs.declared.answer.Ranged.{Ranged}
 use Rattle.uz_range.specs.declared.answer.WideRanged.{WideRanged}
 use Rattle.uz_range.specs.declared.products.Form.{Form}
-use Rattle.uz_range.specs.declared.products.Form.TheVariants as form
-use Rattle.uz_range.specs.Answers.{is_single, is_known, is_one, least_carry, most_carry, flag_of, zero_flag, negative_flag}
-use Rattle.uz_range.specs.Answers.{negative_wide_flag, exact_answer, arithmetic_answer, logic_answer, exact_wide_answer, wide_answer}
-use Rattle.uz_range.specs.Answers.{open_wide_answer}
-use Rattle.uz_range.specs.Rules.{wrapped_sum, wrapped_difference, wrapped_pair_sum, wrapped_pair_difference, sum_answer, difference_answer}
-use Rattle.uz_range.specs.Rules.{chained_answer, chained_zero, bst_answer, product_answer, product_by}
-use Rattle.uz_transfer.specs.Arithmetic.{binary_answer, same_register_answer, is_same_register, operation_answer, known_operand}
-use Rattle.uz_transfer.specs.Arithmetic.{unary_answer, add_to_pair_answer, factors_answer}
-use Rattle.uz_transfer.specs.Memory.{is_old}
-use Rattle.uz_transfer.specs.Values.{flag_at, span_of, value_at}
 use Rattle.uz_search.proofs.Lists.{choose}
+use Rattle.uz_core.specs.declared.machine.BinaryOp.TheVariants as binary
+use Rattle.uz_core.specs.declared.machine.UnaryOp.TheVariants as unary
+use Rattle.uz_range.specs.declared.products.Form.TheVariants as form
 
 -- each flag of a list is new
 abbrev pub AreNew : List Bit → Type 0

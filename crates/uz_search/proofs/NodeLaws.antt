@@ -1,24 +1,13 @@
 -- What the results of one instance owe the frame, and where its handler's entries stand.
-use Rattle.std.proofs.Common.{◌≡◌, ◌≢◌, ℕ, ◌<◌, ◌≤◌, ◌+◌, ◌⊎◌, Option, Some, None, Ok, true, refl, sym, ap, subst, inl}
-use Rattle.std.proofs.Common.{inr, ⊎_elim, slice_get, arith}
-use Rattle.std.proofs.lemmas.Bool.{cases_eq, cases_lt}
-use Rattle.uz_schedule.specs.Schedule.{response_clocks}
-use Rattle.uz_schedule.specs.declared.kinds.Kind.TheVariants.{Main}
-use Rattle.uz_schedule.specs.declared.lines.EventKind.{EventKind}
-use Rattle.uz_schedule.specs.declared.lines.EventKind.TheVariants.{Sync, Leave}
-use Rattle.uz_schedule.specs.declared.states.Instance.{Instance}
-use Rattle.uz_transfer.specs.declared.fail.Fail.{Fail}
-use Rattle.uz_transfer.specs.declared.fail.Fail.TheVariants.{Edge}
-use Rattle.uz_rules.specs.declared.next.Next.{Next}
-use Rattle.uz_search.specs.declared.program.Program.{Program}
-use Rattle.uz_search.specs.Fitting.{Stands, ProgramFits}
-use Rattle.uz_search.specs.Following.{Among, Flash, After, entries, entry_at, lines_of, clock_on, most_clocks, clocks_between, shown_at}
-use Rattle.uz_search.specs.Stuck.{StuckWith, IsUnsteady}
+use Rattle.uz_search.proofs.Common.{◌≡◌, ◌≢◌, ℕ, ◌<◌, ◌≤◌, ◌+◌, ◌⊎◌, Option, Some, None, Ok, true, refl, sym, ap, subst, inl, inr, ⊎_elim}
+use Rattle.uz_search.proofs.Common.{slice_get, arith, cases_eq, cases_lt, response_clocks, Main, EventKind, Sync, Leave, Instance, Fail}
+use Rattle.uz_search.proofs.Common.{Edge, Next, Program, Stands, ProgramFits, Among, Flash, After, entries, entry_at, lines_of, clock_on}
+use Rattle.uz_search.proofs.Common.{most_clocks, clocks_between, shown_at, StuckWith, IsUnsteady}
 use Rattle.uz_search.proofs.FramePlaces.{IsNext, Reaches, next_is, reach_on}
 use Rattle.uz_search.proofs.OneResult.{Steps, steps}
-use Rattle.uz_search.proofs.Results as results
 use Rattle.uz_search.proofs.Results.{Moves}
 use Rattle.uz_search.proofs.Standing.{entry_of}
+use Rattle.uz_search.proofs.Results as results
 
 -- what an instance's results owe, outside main
 pub record Owes (program : Program) (x : Instance) (next : Next) : Type 0 where

@@ -1,33 +1,13 @@
 -- An instance has one answer, and what its step was where it has results.
-use Rattle.std.proofs.Common.{◌≡◌, ℕ, zero, suc, Bool, true, false, List, [], ◌∷◌, ◌++◌, length, map, ◌≤◌, subst, Option, Some, None}
-use Rattle.std.proofs.Common.{Result, Ok, refl, sym, ◌∙◌, ap, slice_get}
-use Rattle.avr_table.specs.declared.Instr.{Instr}
-use Rattle.avr_table.specs.Rows.{clocks_of, words_of}
-use Rattle.uz_core.specs.Core.{returns_from_interrupt}
-use Rattle.uz_core.specs.Effects.{effect_of}
-use Rattle.uz_schedule.specs.Lines.{Lines}
-use Rattle.uz_schedule.specs.declared.lines.EventKind.{EventKind}
-use Rattle.uz_schedule.specs.declared.states.Instance.{Instance}
-use Rattle.uz_transfer.specs.declared.fail.Fail.{Fail}
-use Rattle.uz_transfer.specs.declared.step.Exit.{Exit}
-use Rattle.uz_transfer.specs.declared.step.Step.{Step}
-use Rattle.uz_transfer.specs.declared.step.Test.{Test}
-use Rattle.uz_transfer.specs.Emission.{emission}
-use Rattle.uz_transfer.specs.Kinds.{is_main}
-use Rattle.uz_transfer.specs.Narrowed.{left_at, is_taken, left_of, narrowed, test_of, with_left, with_some_left}
-use Rattle.uz_transfer.specs.declared.narrowing.Left.{Left}
-use Rattle.uz_transfer.specs.Refusals.{fail_of}
-use Rattle.uz_transfer.specs.InTime.{clock_holds}
-use Rattle.uz_transfer.specs.Step.{all_exits, at_exit, clears_flag, draft_of, step_of_row, step_unless, successor}
-use Rattle.uz_rules.specs.declared.next.Next.{Next}
-use Rattle.uz_rules.proofs.AfterLaws.{few_results, results_plain}
-use Rattle.uz_rules.proofs.AskedLaws.{asks_none}
-use Rattle.uz_rules.specs.After.{if_there, timed, results_of, next_of}
-use Rattle.uz_rules.specs.Local.{first_exit}
-use Rattle.uz_rules.proofs.LocalLaws.{decoded_same}
-use Rattle.uz_search.specs.declared.program.Program.{Program}
-use Rattle.uz_search.specs.Following.{Among, Flash, After, order_of_program}
-use Rattle.uz_search.proofs.VisitingLemmas.{some_is}
+use Rattle.uz_search.proofs.Common.{◌≡◌, ℕ, zero, suc, Bool, true, false, List, [], ◌∷◌, ◌++◌, length, map, ◌≤◌, subst, Option, Some, None}
+use Rattle.uz_search.proofs.Common.{Result, Ok, refl, sym, ◌∙◌, ap, slice_get, Instr, clocks_of, words_of, returns_from_interrupt}
+use Rattle.uz_search.proofs.Common.{effect_of, Lines, EventKind, Instance, Fail, Exit, Step, Test, emission, is_main, left_at, is_taken}
+use Rattle.uz_search.proofs.Common.{left_of, narrowed, test_of, with_left, with_some_left, Left, fail_of, clock_holds, at_exit, clears_flag}
+use Rattle.uz_search.proofs.Common.{step_of_row, step_unless, successor, Next, results_plain, asks_none, timed, results_of, next_of}
+use Rattle.uz_search.proofs.Common.{first_exit, decoded_same, Program, Among, Flash, After, order_of_program, same_Some}
+use Rattle.uz_transfer.specs.Step.{all_exits, draft_of}
+use Rattle.uz_rules.proofs.AfterLaws.{few_results}
+use Rattle.uz_rules.specs.After.{if_there}
 
 pub one_result : (image : Flash) (program : Program) (x : Instance) (a b : Result Next Fail) → After image program x a → After image program
     x b → a ≡ b
@@ -157,7 +137,7 @@ left_is_result lines x step [] exit y (i, h) left = cc
 left_is_result lines x step (first ∷ exits) exit y (zero, h) left = (
   0,
   ap (λ o. slice_get (if_there o ++ results_of lines x step exits) 0)
-      (ap (λ e. narrowed step.test e (successor lines x step e)) (some_is first exit h) ∙ left),
+      (ap (λ e. narrowed step.test e (successor lines x step e)) (same_Some first exit h) ∙ left),
 )
 left_is_result lines x step (first ∷ exits) exit y (suc i, h) left =
     by (narrowed step.test first (successor lines x step first)) (left_is_result lines x step exits exit y (i, h) left)
@@ -174,7 +154,7 @@ left_only test exit z y h = by (left_at test (is_taken exit) z.compared (left_of
     by : (o : Option Left) → with_some_left o z ≡ Some y → record z { regs = y.regs; pairs = y.pairs } ≡ y
     by None e = cc
     by (Some left) e =
-        let is : with_left left z ≡ y = some_is (with_left left z) y e in
+        let is : with_left left z ≡ y = same_Some (with_left left z) y e in
         ap (λ (w : Instance). record z { regs = w.regs; pairs = w.pairs }) (sym is) ∙ is
 
 -- by any version there are no more results than exits

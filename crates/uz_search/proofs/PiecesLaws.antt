@@ -1,30 +1,15 @@
 -- The pieces in which a result goes on: each is the result with other registers and pairs, and together they have all of its values.
-use Rattle.std.proofs.Common.{◌≡◌, ℕ, zero, suc, ◌<◌, ◌≤◌, ◌+◌, ◌-◌, ◌*◌, ◌/◌, List, [], ◌∷◌, ◌++◌, map, Option, Some, None, Bool, true}
-use Rattle.std.proofs.Common.{append_assoc, false, ◌&&◌, nat_le, nat_lt, refl, ap, ◌∙◌, subst, ⊎_elim, length, length-append, slice_get}
-use Rattle.std.proofs.Common.{slice_set, if◌then◌else◌, suc-mul, arith}
-use Rattle.std.specs.Prelude.{min}
-use Rattle.std.proofs.Math.Nat.{div-le_self, mul-div-le, mul-le-mul_right}
+use Rattle.uz_search.proofs.Common.{◌≡◌, ℕ, zero, suc, ◌<◌, ◌≤◌, ◌+◌, ◌-◌, ◌*◌, ◌/◌, List, [], ◌∷◌, ◌++◌, map, Option, Some, None, Bool}
+use Rattle.uz_search.proofs.Common.{true, append_assoc, false, ◌&&◌, nat_le, nat_lt, refl, ap, ◌∙◌, subst, ⊎_elim, length, length-append}
+use Rattle.uz_search.proofs.Common.{slice_get, slice_set, if◌then◌else◌, suc-mul, arith, min, and_parts, nat_tests, flat_map, Ends, Range}
+use Rattle.uz_search.proofs.Common.{Head, Kind, Instance, is_main, byte_hull, pair_number, span_of, value_at, with_value, Next, Program}
+use Rattle.uz_search.proofs.Common.{Among, entries, followers_of, split_at, OldFits, first_pieces, is_split, piece_from, piece_size, pieces}
+use Rattle.uz_search.proofs.Common.{pieces_each, pieces_of, split_in, widened, same_Some, length-set}
+use Rattle.std.proofs.Math.Nat.{div-le_self, mul-div-le}
 use Rattle.std.proofs.lemmas.Nat.{le-div}
-use Rattle.std.proofs.lemmas.Bool.{and_parts}
-use Rattle.std.proofs.lemmas.Bool.Decides.{nat_tests}
-use Rattle.std.specs.List.{flat_map}
-use Rattle.uz_schedule.specs.Ends.{Ends}
-use Rattle.uz_schedule.specs.declared.facts.Val.TheVariants.{Range}
-use Rattle.uz_schedule.specs.declared.header.Head.{Head}
-use Rattle.uz_schedule.specs.declared.kinds.Kind.{Kind}
-use Rattle.uz_schedule.specs.declared.states.Instance.{Instance}
-use Rattle.uz_transfer.specs.Kinds.{is_main}
-use Rattle.uz_transfer.specs.Values.{byte_hull, pair_number, span_of, value_at, with_value}
-use Rattle.uz_rules.specs.declared.next.Next.{Next}
-use Rattle.uz_search.specs.declared.program.Program.{Program}
-use Rattle.uz_search.specs.Following.{Among, entries, followers_of, split_at}
-use Rattle.uz_search.specs.Limits.{OldFits}
-use Rattle.uz_search.specs.Pieces.{first_pieces, is_split, piece_from, piece_size, pieces, pieces_each, pieces_of, split_in}
-use Rattle.uz_search.specs.Widened.{widened}
-use Rattle.uz_search.proofs.Known.{each_set, length_set}
+use Rattle.uz_search.proofs.Known.{each_set}
 use Rattle.uz_search.proofs.Lists.{append_cases, choose, of_flat, of_map}
 use Rattle.uz_search.proofs.Loosening.{NearlyKnown}
-use Rattle.uz_search.proofs.VisitingLemmas.{some_is}
 use Rattle.uz_search.proofs.WidenedLaws.{LeavesRest, SamePlace, widened_rest}
 
 -- One piece
@@ -40,11 +25,11 @@ value_piece : (r : ℕ) (e : Ends) (y : Instance) → IsPiece y (with_value r (R
 value_piece r e y = record {
   rest = refl;
   nearly = λ head kind h. record {
-    register_count = length_set y.regs r (Range e) ∙ h.register_count;
+    register_count = length-set y.regs r (Range e) ∙ h.register_count;
     registers = each_set (OldFits kind) y.regs r (Range e) h.registers tt;
     pair_count = choose (λ (l : List Ends). length l ≡ 3) (nat_le 26 r)
         (slice_set y.pairs (pair_number r) (byte_hull (slice_set y.regs r (Range e)) (26 + 2 * pair_number r))) y.pairs
-        (length_set y.pairs (pair_number r) (byte_hull (slice_set y.regs r (Range e)) (26 + 2 * pair_number r)) ∙ h.pair_count)
+        (length-set y.pairs (pair_number r) (byte_hull (slice_set y.regs r (Range e)) (26 + 2 * pair_number r)) ∙ h.pair_count)
         h.pair_count;
     flag_count = h.flag_count;
     flags = h.flags;
@@ -61,7 +46,7 @@ from_piece most r e y v z (i, h) = by (nat_le v e.hi) i h
     end = record { lo = v; hi = min e.hi (v + (e.hi - e.lo) / most) }
 
     by : (b : Bool) (i : ℕ) → slice_get (if b then with_value r (Range end) y ∷ [] else []) i ≡ Some z → IsPiece y z
-    by true zero h = subst (IsPiece y) (some_is (with_value r (Range end) y) z h) (value_piece r end y)
+    by true zero h = subst (IsPiece y) (same_Some (with_value r (Range end) y) z h) (value_piece r end y)
     by true (suc i) h = cc
     by false i h = cc
 
@@ -78,7 +63,7 @@ pieces_are most r e y z (i, h) = by (nat_lt r 32 && is_split e) i h
   where
     by : (b : Bool) (i : ℕ) → slice_get (if b then first_pieces most r e y most else y ∷ []) i ≡ Some z → IsPiece y z
     by true i h = first_are most r e y most z (i, h)
-    by false zero h = subst (IsPiece y) (some_is y z h) (whole_piece y)
+    by false zero h = subst (IsPiece y) (same_Some y z h) (whole_piece y)
     by false (suc i) h = cc
 
 -- the result of which it is a piece
@@ -248,9 +233,3 @@ result_more most r e y i old new some few more =
     let next : (i + 1) * most ≡ suc i * most = ap (λ k. k * most) (omega arith) in
     let product = suc-mul i most in
     omega (arith, few, one, sum, next, product)
-
-pub room_left : (most i n used : ℕ) → used ≤ i * most → i < n → n * most ≤ 16 → used + most ≤ 16
-room_left most i n used few within all =
-    let product = suc-mul i most in
-    let below : suc i * most ≤ n * most = mul-le-mul_right most within in
-    omega (arith, few, product, below, all)

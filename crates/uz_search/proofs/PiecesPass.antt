@@ -1,30 +1,17 @@
 -- A result passes the local rule where its pieces, as they go on, lie in the named successors: it is covered by the values of the register.
-use Rattle.std.proofs.Common.{◌≡◌, ℕ, zero, suc, ◌<◌, ◌≤◌, ◌+◌, ◌-◌, ◌*◌, ◌/◌, List, [], ◌∷◌, ◌++◌, Option, Some, None, Bool, true}
-use Rattle.std.proofs.Common.{false, ◌&&◌, ◌||◌, nat_le, nat_lt, refl, sym, ap, subst, ⊎_elim, slice_set}
-use Rattle.std.proofs.Common.{if◌then◌else◌, suc-mul, zero-mul, arith, length}
-use Rattle.std.specs.Prelude.{min}
+use Rattle.uz_search.proofs.Common.{◌≡◌, ℕ, zero, suc, ◌<◌, ◌≤◌, ◌+◌, ◌-◌, ◌*◌, ◌/◌, List, [], ◌∷◌, ◌++◌, Option, Some, None, Bool, true}
+use Rattle.uz_search.proofs.Common.{false, ◌&&◌, ◌||◌, nat_le, nat_lt, refl, sym, ap, subst, ⊎_elim, slice_set, if◌then◌else◌, suc-mul}
+use Rattle.uz_search.proofs.Common.{zero-mul, arith, length, min, and_parts, cases_lt, nat_tests, Ends, hull, Cert, Val, Range, Old}
+use Rattle.uz_search.proofs.Common.{OldFlags, Instance, byte_hull, known_byte, pair_at, pair_number, span_of, value_at, with_value, inside}
+use Rattle.uz_search.proofs.Common.{KnownInItself, PlaceHolds, passes, Program, Among, first_pieces, is_split, piece_from, piece_size}
+use Rattle.uz_search.proofs.Common.{pieces_each, pieces_of, widened, same_Some}
 use Rattle.std.proofs.Math.Nat.{lt-mul-div-succ}
-use Rattle.std.proofs.lemmas.Bool.{and_parts, cases_lt}
-use Rattle.std.proofs.lemmas.Bool.Decides.{nat_tests}
-use Rattle.uz_schedule.specs.Ends.{Ends, hull}
-use Rattle.uz_schedule.specs.declared.certificate.Cert.{Cert}
-use Rattle.uz_schedule.specs.declared.facts.Val.{Val}
-use Rattle.uz_schedule.specs.declared.facts.Val.TheVariants.{Range, Old, OldFlags}
-use Rattle.uz_schedule.specs.declared.states.Instance.{Instance}
-use Rattle.uz_transfer.specs.Values.{byte_hull, known_byte, pair_at, pair_number, span_of, value_at, with_value}
 use Rattle.uz_rules.specs.Cover.{all_from, at_value, covered_by, lies_at_each, most_values}
-use Rattle.uz_rules.specs.Inside.{inside, KnownInItself, PlaceHolds}
-use Rattle.uz_rules.specs.Local.{passes}
 use Rattle.uz_rules.specs.Successors.{lies_in_any}
-use Rattle.uz_search.specs.declared.program.Program.{Program}
 use Rattle.uz_search.specs.Complete.{PiecesPass}
-use Rattle.uz_search.specs.Following.{Among}
-use Rattle.uz_search.specs.Pieces.{first_pieces, is_split, piece_from, piece_size, pieces_each, pieces_of}
-use Rattle.uz_search.specs.Widened.{widened}
 use Rattle.uz_search.proofs.InsideWidened.{Grows, Spreads, Wider, grows_self, inside_wider, inside_widened, spreads_self, wider_then}
 use Rattle.uz_search.proofs.InsideWidened.{widened_wider}
 use Rattle.uz_search.proofs.PiecesLaws.{some_each}
-use Rattle.uz_search.proofs.VisitingLemmas.{some_is}
 use Rattle.uz_search.proofs.WidenedLaws.{widened_rest}
 
 -- A value and a range that has it
@@ -142,7 +129,7 @@ among_each : (most r : ℕ) (results : List Instance) (y z : Instance) → Among
 among_each most r [] y z (i, h) piece = cc
 among_each most r (u ∷ us) y z (zero, h) piece =
     in_front (pieces_of most r (span_of (value_at u.regs r)) u) (pieces_each most r us) z
-    (subst (λ (v : Instance). Among (pieces_of most r (span_of (value_at v.regs r)) v) z) (sym (some_is u y h)) piece)
+    (subst (λ (v : Instance). Among (pieces_of most r (span_of (value_at v.regs r)) v) z) (sym (same_Some u y h)) piece)
 among_each most r (u ∷ us) y z (suc i, h) piece =
     behind (pieces_of most r (span_of (value_at u.regs r)) u) (pieces_each most r us) z (among_each most r us y z (i, h) piece)
 

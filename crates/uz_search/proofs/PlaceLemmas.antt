@@ -1,19 +1,14 @@
 -- Facts of one place tell nothing of another one: widening is a fold of its own at each place.
-use Rattle.std.proofs.Common.{◌≡◌, ◌≢◌, ℕ, zero, suc, ◌+◌, ◌<◌, ◌≤◌, ◌==◌, List, [], ◌∷◌, ◌++◌, length, Some, None, Option}
-use Rattle.std.proofs.Common.{Bool, true, false, not}
-use Rattle.std.proofs.Common.{◌&&◌, nat_lt, if◌then◌else◌, refl, sym, ap, ◌∙◌, subst, arith, slice_index_or, slice_set, length-set, reverse}
-use Rattle.std.proofs.lemmas.Bool.{eqb-true}
-use Rattle.std.proofs.lemmas.Bool.Decides.{nat_tests}
+use Rattle.uz_search.proofs.Common.{◌≡◌, ◌≢◌, ℕ, ◌+◌, ◌<◌, ◌≤◌, ◌==◌, List, [], ◌∷◌, ◌++◌, length, Some, None, Option, Bool, true, false}
+use Rattle.uz_search.proofs.Common.{not, ◌&&◌, nat_lt, if◌then◌else◌, refl, sym, ap, ◌∙◌, subst, arith, slice_index_or, slice_set, reverse}
+use Rattle.uz_search.proofs.Common.{eqb-true, nat_tests, reverse-append, get_or-set_other, Ends, is_within, whole_byte, whole_pair, Val}
+use Rattle.uz_search.proofs.Common.{Range, Old, OldFlags, Instance, Widening, Register, Pair, is_whole, widened_all, widened_by}
+use Rattle.uz_search.proofs.Common.{widened_pair, widened_value, folded, folded_value}
+use Rattle.std.proofs.Common.{length-set}
+use Rattle.std.proofs.lemmas.List.{get_or_default, same_lists, set-get_or}
+use Rattle.uz_search.specs.Places.{AreBytes, AreChains, IsTold, chains_with, ranges_of, told, with_told}
 use Rattle.std.proofs.lemmas.Grind.{get_or-set_at}
-use Rattle.std.proofs.lemmas.List.{get_or-set_other, get_or_default, reverse-append, same_lists, set-get_or}
-use Rattle.uz_schedule.specs.Ends.{Ends, is_within, whole_byte, whole_pair}
-use Rattle.uz_schedule.specs.declared.facts.Val.{Val}
-use Rattle.uz_schedule.specs.declared.facts.Val.TheVariants.{Range, Old, OldFlags}
-use Rattle.uz_schedule.specs.declared.states.Instance.{Instance}
-use Rattle.uz_search.specs.declared.widening.Widening.{Widening}
-use Rattle.uz_search.specs.declared.widening.Widening.TheVariants.{Register, Pair}
-use Rattle.uz_search.specs.Widenings.{is_whole, widened_all, widened_by, widened_pair, widened_value}
-use Rattle.uz_search.specs.Places.{AreBytes, AreChains, IsTold, chains_with, folded, folded_value, ranges_of, told, with_told}
+use Rattle.uz_search.proofs.Lists.{choose}
 
 -- Registers and pairs apart
 
@@ -233,20 +228,10 @@ by_places facts chains x regs pairs are x_regs x_pairs l_regs l_pairs each_reg e
 -- bytes stay bytes
 pub byte_still : (ranges : List Ends) (e : Ends) → AreBytes ranges → e.hi ≤ 255 → (folded ranges e).hi ≤ 255
 byte_still [] e all low = low
-byte_still (fact ∷ ranges) e all low = byte_still ranges (if is_within e fact then fact else e) all.1 (either (is_within e fact))
-  where
-    either : (b : Bool) → (if b then fact else e).hi ≤ 255
-    either true = all.0
-    either false = low
+byte_still (fact ∷ ranges) e all low = byte_still ranges (if is_within e fact then fact else e) all.1
+    (choose (λ (r : Ends). r.hi ≤ 255) (is_within e fact) fact e all.0 low)
 
 -- The chains of facts
-
-pub none_more : (chains : List (List Ends)) (q : ℕ) → ((k : ℕ) → slice_index_or chains k [] ≡ [])
-    → slice_index_or (chains ++ [] ∷ []) q [] ≡ []
-none_more [] zero h = refl
-none_more [] (suc q) h = refl
-none_more (c ∷ chains) zero h = h 0
-none_more (c ∷ chains) (suc q) h = none_more chains q (λ k. h (suc k))
 
 with_told_bytes : (t : Option (ℕ × Ends)) (place : ℕ) (ranges : List Ends) → place < 32 → IsTold t → AreBytes ranges
     → AreBytes (with_told place t ranges)
@@ -285,8 +270,3 @@ facts_more fact facts chains more after are e f is =
       each = λ place few. with_told_each (told fact) (reverse facts) chains place few are.count (are.each place few);
       bytes = λ place few. with_told_bytes (told fact) place (ranges_of place (reverse facts)) few is (are.bytes place few);
     }))
-
--- an element, whatever would stand for one that isn't there
-pub chain_at : (chains : List (List Ends)) (q : ℕ) (chain : List Ends) → chain ≡ slice_index_or chains q chain → q < length chains
-    → chain ≡ slice_index_or chains q []
-chain_at chains q chain is less = is ∙ get_or_default chains q chain [] less

@@ -1,10 +1,8 @@
 -- Positions of a frame, in clocks from its begin: each is one clock of one line, and places go on with them.
-use Rattle.std.proofs.Common.{◌≡◌, ◌≢◌, ℕ, zero, suc, ◌<◌, ◌≤◌, ◌+◌, ◌-◌, ◌%◌, inl, inr, ⊎_elim, length, refl, sym, ap, ◌∙◌, arith}
-use Rattle.std.proofs.Math.Nat.{mod-add-mod, mod-eq_of_lt, add-mod_right}
-use Rattle.std.proofs.lemmas.Bool.{cases_eq, cases_lt}
-use Rattle.uz_schedule.specs.Schedule.{length_of, start_of, frame_of}
-use Rattle.uz_schedule.specs.declared.lines.Schedule.{Schedule}
-use Rattle.uz_schedule.proofs.Starts.{place_below, start_more}
+use Rattle.uz_search.proofs.Common.{◌≡◌, ◌≢◌, ℕ, zero, suc, ◌<◌, ◌≤◌, ◌+◌, ◌-◌, ◌%◌, inl, inr, ⊎_elim, length, refl, sym, ap, ◌∙◌, arith}
+use Rattle.uz_search.proofs.Common.{mod-add-mod, mod-eq_of_lt, add-mod_right, cases_eq, cases_lt, length_of, start_of, frame_of, Schedule}
+use Rattle.uz_search.proofs.Common.{place_below}
+use Rattle.uz_schedule.proofs.Starts.{start_more}
 use Rattle.uz_search.proofs.FramePlaces.{Reaches}
 
 -- a clock of an earlier line comes earlier

@@ -1,44 +1,23 @@
 -- Where the results of an instance stand, and what is shown on the way to them.
-use Rattle.std.proofs.Common.{◌≡◌, ◌≢◌, ℕ, zero, suc, ◌<◌, ◌≤◌, ◌+◌, ◌-◌, ◌%◌, List, [], ◌∷◌, map, Option, Some, None, true}
-use Rattle.std.proofs.Common.{false, not, ◌&&◌, ◌||◌, refl, sym, ap, ◌∙◌, subst, ⊎_elim, slice_get, if◌then◌else◌, arith}
-use Rattle.std.proofs.Math.Nat.{mod-eq_of_lt}
-use Rattle.uz_core.specs.Core.{returns_from_interrupt}
-use Rattle.uz_core.specs.Effects.{effect_of}
-use Rattle.avr_table.specs.Rows.{clocks_of, words_of}
-use Rattle.uz_schedule.specs.Lines.{line_after, clock_after}
-use Rattle.uz_schedule.specs.Ends.{whole_byte}
-use Rattle.uz_schedule.specs.Limits.{is_top}
-use Rattle.uz_schedule.specs.Schedule.{length_of, scanline}
-use Rattle.uz_schedule.specs.Told.{IsInstanceTold}
-use Rattle.uz_schedule.specs.declared.kinds.Kind.{Kind}
-use Rattle.uz_schedule.specs.declared.kinds.Kind.TheVariants.{Main, Handler, Alone}
-use Rattle.uz_schedule.specs.declared.lines.EventKind.{EventKind}
-use Rattle.uz_schedule.specs.declared.lines.EventKind.TheVariants.{Sync, Pixel, Sound, Leave}
-use Rattle.uz_schedule.specs.declared.states.Instance.{Instance}
-use Rattle.uz_transfer.specs.declared.step.Exit.{Exit}
+use Rattle.uz_search.proofs.Common.{◌≡◌, ◌≢◌, ℕ, zero, suc, ◌<◌, ◌≤◌, ◌+◌, ◌-◌, ◌%◌, List, [], ◌∷◌, map, Option, Some, None, true, false}
+use Rattle.uz_search.proofs.Common.{not, ◌&&◌, ◌||◌, refl, sym, ap, ◌∙◌, subst, ⊎_elim, slice_get, if◌then◌else◌, arith, mod-eq_of_lt}
+use Rattle.uz_search.proofs.Common.{returns_from_interrupt, effect_of, clocks_of, words_of, line_after, clock_after, whole_byte, is_top}
+use Rattle.uz_search.proofs.Common.{length_of, scanline, IsInstanceTold, Kind, Main, Handler, Alone, EventKind, Sync, Pixel, Sound, Leave}
+use Rattle.uz_search.proofs.Common.{Instance, Exit, emission, emission_at, level_after, outcomes, is_main, narrowed, test_of, clears_flag}
+use Rattle.uz_search.proofs.Common.{following_of, at_exit, sampled_of, pair_range, Next, timed, first_exit, Program, ProgramFits, Stands}
+use Rattle.uz_search.proofs.Common.{Among, Flash, order_of_program, lines_of, line_on, clock_on, place_on, clocks_between, most_clocks}
+use Rattle.uz_search.proofs.Common.{cases_Bool, same_Some}
+use Rattle.uz_transfer.specs.Step.{ends_line}
+use Rattle.uz_search.specs.Following.{frame_of}
 use Rattle.uz_transfer.specs.Compared.{with_compared}
-use Rattle.uz_transfer.specs.Emission.{emission, emission_at, level_after}
-use Rattle.uz_transfer.specs.Exits.{outcomes}
-use Rattle.uz_transfer.specs.Kinds.{is_main}
-use Rattle.uz_transfer.specs.Narrowed.{narrowed, test_of}
-use Rattle.uz_transfer.specs.Step.{clears_flag, ends_line, following_of, at_exit, sampled_of}
 use Rattle.uz_transfer.specs.Timer.{with_timer}
-use Rattle.uz_transfer.specs.Values.{pair_range}
-use Rattle.uz_rules.specs.declared.next.Next.{Next}
-use Rattle.uz_rules.specs.After.{timed}
-use Rattle.uz_rules.specs.Local.{first_exit}
-use Rattle.uz_search.specs.declared.program.Program.{Program}
-use Rattle.uz_search.specs.Fitting.{ProgramFits, Stands}
-use Rattle.uz_search.specs.Following.{Among, Flash, order_of_program, lines_of, frame_of, line_on, clock_on, place_on}
-use Rattle.uz_search.specs.Following.{clocks_between, most_clocks}
 use Rattle.uz_search.proofs.OneResult.{Steps, exits_at, draft_at, left_at_exit, left_only, step_at}
-use Rattle.uz_search.proofs.Lists.{in_map, kind_cases, bool_cases}
+use Rattle.uz_search.proofs.Lists.{in_map, kind_cases}
 use Rattle.uz_search.proofs.Exits.{exit_clocks, first_exit_of, emits_one, returns_one, OneExit}
 use Rattle.uz_search.proofs.Events.{Turns, Emits, emits, back_handler, level_turned}
 use Rattle.uz_search.proofs.FramePlaces.{Reaches, length_few, length_some, line_below, reach_after, reach_line, between_of}
 use Rattle.uz_search.proofs.TimerLaws.{handler_not, temp_kept, top_kept, top_stays}
 use Rattle.uz_search.proofs.ToldLaws.{told_so, transfer_leaves}
-use Rattle.uz_search.proofs.VisitingLemmas.{some_is}
 
 pub apart_main : (k : Kind) → k ≢ Main → is_main k ≡ false
 apart_main Main h = absurd (h refl)
@@ -215,7 +194,7 @@ module _ (image : Flash) (program : Program) (fits : ProgramFits program) (x : I
   at_end t e y emit h = by s.emitted refl
     where
       only : (a b : Exit) (i : ℕ) → slice_get (b ∷ []) i ≡ Some a → a ≡ b
-      only a b zero g = sym (some_is b a g)
+      only a b zero g = sym (same_Some b a g)
       only a b (suc i) g = cc
 
       by : (emitted : Option EventKind) → s.emitted ≡ emitted → t ≡ clocks_between program x y
@@ -229,7 +208,7 @@ module _ (image : Flash) (program : Program) (fits : ProgramFits program) (x : I
           let first : first_exit (exits_at image x s.row) ≡ one.exit = ap first_exit one.is in
           let timed_so : Some (t, e) ≡ Some ((first_exit (exits_at image x s.row)).clocks, event) =
           sym emit ∙ s.emit ∙ ap (λ o. timed o (first_exit (exits_at image x s.row)).clocks) is in
-          let pair : (t, e) ≡ ((first_exit (exits_at image x s.row)).clocks, event) = some_is (t, e) _ timed_so in
+          let pair : (t, e) ≡ ((first_exit (exits_at image x s.row)).clocks, event) = same_Some (t, e) _ timed_so in
           ap (λ (q : ℕ × EventKind). q.0) pair ∙ ap (λ (z : Exit). z.clocks) (first ∙ sym mine) ∙ sym (clocks_to y h).0
 
   -- what an event is: a leave of a return, and else a turn of the level
@@ -241,13 +220,13 @@ module _ (image : Flash) (program : Program) (fits : ProgramFits program) (x : I
           let none : Some (t, e) ≡ None = sym emit ∙ s.emit ∙ ap (λ o. timed o (first_exit (exits_at image x s.row)).clocks) is in
           cc
       by (Some event) is =
-          let pair : (t, e) ≡ ((first_exit (exits_at image x s.row)).clocks, event) = some_is (t, e) _
+          let pair : (t, e) ≡ ((first_exit (exits_at image x s.row)).clocks, event) = same_Some (t, e) _
           (sym emit ∙ s.emit ∙ ap (λ o. timed o (first_exit (exits_at image x s.row)).clocks) is) in
           is ∙ ap Some (ap (λ (q : ℕ × EventKind). q.1) (sym pair))
 
   pub leaves : next.back ≡ true → (t : ℕ) × (next.emit ≡ Some (t, Leave))
   leaves back =
-      let e : s.emitted ≡ Some Leave = some_is s.emitted (Some Leave) (subst (λ b. Emits x.level b (Some s.emitted)) back
+      let e : s.emitted ≡ Some Leave = same_Some s.emitted (Some Leave) (subst (λ b. Emits x.level b (Some s.emitted)) back
       (emits_so image program x next s stands)) in
       ((first_exit (exits_at image x s.row)).clocks, s.emit ∙ ap (λ o. timed o (first_exit (exits_at image x s.row)).clocks) e)
 
@@ -255,19 +234,19 @@ module _ (image : Flash) (program : Program) (fits : ProgramFits program) (x : I
   returns t emit = ⊎_elim (λ h. h)
       (λ h. absurd (subst (λ o. Turns x.level (Some o)) (emitted_is t Leave emit) (subst (λ b. Emits x.level b (Some s.emitted)) h
       (emits_so image program x next s stands))))
-      (bool_cases next.back)
+      (cases_Bool next.back)
 
   pub syncs : (t v : ℕ) (y : Instance) → next.emit ≡ Some (t, Sync v) → Among next.out.items y → (y.level ≡ v) × (x.level + v ≡ 1)
   syncs t v y emit h =
       let e = emitted_is t (Sync v) emit in (
         level_of y h ∙ ap (λ o. level_after o x.level) e,
         ⊎_elim
-            (λ back. let leave : s.emitted ≡ Some Leave = some_is s.emitted (Some Leave) (subst (λ b. Emits x.level b (Some s.emitted)) back
+            (λ back. let leave : s.emitted ≡ Some Leave = same_Some s.emitted (Some Leave) (subst (λ b. Emits x.level b (Some s.emitted)) back
             (emits_so image program x next s stands)) in
-            let one : Sync v ≡ Leave = some_is (Sync v) Leave (sym e ∙ leave) in absurd cc)
+            let one : Sync v ≡ Leave = same_Some (Sync v) Leave (sym e ∙ leave) in absurd cc)
             (λ back. subst (λ o. Turns x.level (Some o)) e (subst (λ b. Emits x.level b (Some s.emitted)) back
             (emits_so image program x next s stands)))
-            (bool_cases next.back),
+            (cases_Bool next.back),
       )
 
   pub keeps : ((t v : ℕ) → next.emit ≡ Some (t, Sync v) → ⊥) → (y : Instance) → Among next.out.items y → y.level ≡ x.level
@@ -304,13 +283,13 @@ module _ (image : Flash) (program : Program) (fits : ProgramFits program) (x : I
 
   level_bound : x.kind ≢ Main → (y : Instance) → Among next.out.items y → y.level ≤ 1
   level_bound apart y h = ⊎_elim
-      (λ back. let leave : s.emitted ≡ Some Leave = some_is s.emitted (Some Leave) (subst (λ b. Emits x.level b (Some s.emitted)) back
+      (λ back. let leave : s.emitted ≡ Some Leave = same_Some s.emitted (Some Leave) (subst (λ b. Emits x.level b (Some s.emitted)) back
       (emits_so image program x next s stands)) in
       subst (λ n. n ≤ 1) (sym (level_of image program fits x stands apart next s y h ∙ ap (λ o. level_after o x.level) leave)) stands.level)
       (λ back. subst (λ n. n ≤ 1) (sym (level_of image program fits x stands apart next s y h))
       (level_turned x.level s.emitted stands.level (subst (λ b. Emits x.level b (Some s.emitted)) back
       (emits_so image program x next s stands))))
-      (bool_cases next.back)
+      (cases_Bool next.back)
 
   line_bound : (y : Instance) → Moves program x y → y.line < lines_of program
   line_bound y m = reach_line program.schedule x.line x.clock (clocks_between program x y) y.line y.clock stands.line m.goes

@@ -1,9 +1,6 @@
 -- A return is noted on a line that has none.
-use Rattle.std.proofs.Common.{◌≡◌, ◌≢◌, ◌∙◌, sym, subst, inl, inr, ⊎_elim, ℕ, List, slice_get}
-use Rattle.std.specs.Prelude.{Option, Some, None, slice_set}
-use Rattle.std.proofs.lemmas.Bool.{cases_eq}
-use Rattle.uz_schedule.specs.declared.states.Instance.{Instance}
-use Rattle.uz_search.specs.declared.returns.Return.{Return}
+use Rattle.uz_search.proofs.Common.{◌≡◌, ◌≢◌, ◌∙◌, sym, subst, inl, inr, ⊎_elim, ℕ, List, slice_get, Option, Some, None, slice_set}
+use Rattle.uz_search.proofs.Common.{cases_eq, Instance, Return, slice_get_within}
 use Rattle.uz_search.specs.Returning.{IsReturnOf, NotesReturn}
 use Rattle.uz_search.proofs.MarkingLemmas.{get_set_same, get_set_other}
 
@@ -20,10 +17,10 @@ noted old end by r free is number = (
       (λ (same : line ≡ end.line). absurd (none_there s (sym (subst (λ k. slice_get old k ≡ Some (Some s)) same at) ∙ free)))
       (λ (other : line ≢ end.line). get_set_other old end.line line (Some r) other ∙ at)
       (cases_eq line end.line)),
-  (r, get_set_same old end.line (Some r) None free, is),
+  (r, get_set_same old end.line (Some r) (slice_get_within old end.line None free), is),
   (λ line s at. ⊎_elim
       (λ (same : line ≡ end.line).
-      let here : r ≡ s = one_there r s (sym (get_set_same old end.line (Some r) None free)
+      let here : r ≡ s = one_there r s (sym (get_set_same old end.line (Some r) (slice_get_within old end.line None free))
       ∙ subst (λ k. slice_get (slice_set old end.line (Some r)) k ≡ Some (Some s)) same at) in
       inr (same, subst (λ v. IsReturnOf v end) here is, subst (λ v. v.by ≡ by) here number))
       (λ (other : line ≢ end.line). inl (sym (get_set_other old end.line line (Some r) other) ∙ at))

@@ -1,24 +1,16 @@
 -- The schedule that is made of the marks, position by position.
-use Rattle.std.proofs.Common.{◌≡◌, ℕ, zero, suc, ◌<◌, ◌≤◌, ◌+◌, ◌-◌, ◌%◌, ◌==◌, List, Option, Some, None, refl, sym, ap, ◌∙◌, subst}
-use Rattle.std.proofs.Common.{length, slice_get, if◌then◌else◌, arith}
-use Rattle.std.proofs.Math.Nat.{mod-eq_of_lt, mod-lt, add-mod_right}
-use Rattle.uz_schedule.specs.Lines.{order_of}
-use Rattle.uz_schedule.specs.Schedule.{length_of, start_of, frame_of, event_at, level_at, sync_at, sync_of, or_else}
-use Rattle.uz_schedule.specs.declared.lines.EventKind.{EventKind}
-use Rattle.uz_schedule.specs.declared.lines.EventKind.TheVariants.{Sync, Pixel, Sound, Leave}
-use Rattle.uz_schedule.specs.declared.lines.Schedule.{Schedule}
-use Rattle.uz_schedule.proofs.Modulo.{event_at_mod, level_mod, level_step}
-use Rattle.uz_schedule.proofs.Starts.{place_below}
-use Rattle.uz_search.specs.declared.marks.Mark.{Mark}
-use Rattle.uz_search.specs.declared.marks.Mark.TheVariants as variants
-use Rattle.uz_search.specs.declared.program.Program.{Program}
-use Rattle.uz_search.specs.Following.{lines_of}
-use Rattle.uz_search.specs.Marking.{mark_of, event_of_mark, Seen}
+use Rattle.uz_search.proofs.Common.{◌≡◌, ℕ, zero, suc, ◌<◌, ◌≤◌, ◌+◌, ◌-◌, ◌%◌, ◌==◌, List, Option, Some, None, refl, sym, ap, ◌∙◌, subst}
+use Rattle.uz_search.proofs.Common.{length, slice_get, if◌then◌else◌, arith, mod-eq_of_lt, mod-lt, add-mod_right, order_of, length_of}
+use Rattle.uz_search.proofs.Common.{start_of, frame_of, event_at, level_at, EventKind, Sync, Pixel, Sound, Leave, Schedule, level_mod}
+use Rattle.uz_search.proofs.Common.{place_below, Mark, Program, lines_of, mark_of, event_of_mark, Seen, IsScheduleOf}
+use Rattle.uz_schedule.specs.Schedule.{sync_at, sync_of, or_else}
+use Rattle.uz_schedule.proofs.Modulo.{event_at_mod, level_step}
+use Rattle.uz_search.specs.Made.{event_of, marked_at}
 use Rattle.uz_search.proofs.FramePlaces.{at}
 use Rattle.uz_search.proofs.MarkingLemmas.{event_back}
-use Rattle.uz_search.specs.Made.{event_of, marked_at, IsScheduleOf}
 use Rattle.uz_search.proofs.Levels.{LevelIs, SyncAt}
 use Rattle.uz_search.proofs.Positions.{some_place}
+use Rattle.uz_search.specs.declared.marks.Mark.TheVariants as variants
 
 -- what is marked is shown
 pub seen_shows : (marks : List Mark) (y : ℕ) (e : Option EventKind) → Seen marks y e → marked_at marks y ≡ e

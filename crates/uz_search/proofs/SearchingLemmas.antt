@@ -1,26 +1,14 @@
 -- What is kept while instances are asked.
-use Rattle.std.proofs.Common.{◌≡◌, ◌≢◌, ℕ, zero, suc, ◌<◌, ◌+◌, [], List, Option, Some, None, Ok, sym, ap, ◌∙◌, subst, length, slice_get}
-use Rattle.std.proofs.Common.{get_or, ◌++◌, inl, inr, ⊎_elim, drop, take, append-nil, arith}
+use Rattle.uz_search.proofs.Common.{◌≡◌, ◌≢◌, ℕ, zero, suc, ◌<◌, ◌+◌, [], List, Option, Some, None, Ok, sym, ap, ◌∙◌, subst, length}
+use Rattle.uz_search.proofs.Common.{slice_get, get_or, ◌++◌, inl, inr, ⊎_elim, drop, take, arith, slice_get_within, slice_get-get_or}
+use Rattle.uz_search.proofs.Common.{same_Some, cases_eq, Instance, Main, Next, Mark, Shown, Return, Fail, Program, Among, Flash, After}
+use Rattle.uz_search.proofs.Common.{Follows, followers_of, most_clocks, StuckWith, CameFrom, IsTree, Extends, AddsAll, KeepsMarks, MarksAll}
+use Rattle.uz_search.proofs.Common.{MarksWay, NotesEnd, Treats, Treated, IsSearch, SplitsFrom}
+use Rattle.std.proofs.Common.{append-nil}
 use Rattle.std.proofs.lemmas.List.{take_all, drop_all}
-use Rattle.std.proofs.lemmas.Option.{slice_get_within, slice_get-get_or}
-use Rattle.std.proofs.lemmas.Bool.{cases_eq}
-use Rattle.uz_schedule.specs.declared.states.Instance.{Instance}
-use Rattle.uz_schedule.specs.declared.kinds.Kind.TheVariants.{Main}
-use Rattle.uz_rules.specs.declared.next.Next.{Next}
-use Rattle.uz_search.specs.declared.marks.Mark.{Mark}
-use Rattle.uz_search.specs.declared.marks.Shown.{Shown}
-use Rattle.uz_search.specs.declared.returns.Return.{Return}
 use Rattle.uz_search.specs.Returning.{KeepsReturns}
-use Rattle.uz_search.proofs.VisitingLemmas.{some_is, among_more}
-use Rattle.uz_transfer.specs.declared.fail.Fail.{Fail}
-use Rattle.uz_search.specs.declared.program.Program.{Program}
-use Rattle.uz_search.specs.Following.{Among, Flash, After, Follows, followers_of, most_clocks}
-use Rattle.uz_search.specs.Stuck.{StuckWith}
+use Rattle.uz_search.proofs.VisitingLemmas.{among_more}
 use Rattle.uz_search.specs.Refusing.{Split}
-use Rattle.uz_search.specs.Trails.{CameFrom}
-use Rattle.uz_search.specs.Visiting.{IsTree, Extends, AddsAll}
-use Rattle.uz_search.specs.Marking.{KeepsMarks, MarksAll}
-use Rattle.uz_search.specs.Searching.{MarksWay, NotesEnd, Treats, Treated, IsSearch, SplitsFrom}
 
 pub way_from_all : (p : Program) (x : Instance) (next : Next) (old : List Mark) (noted : Option Shown) (new : List Mark)
     → x.kind ≢ Main → MarksAll p x (most_clocks p x next.out.items) next.emit old noted new → MarksWay p x next old noted new
@@ -124,7 +112,7 @@ search_more image program nodes nodes' parents parents' marks marks' returns ret
       frame = same_marks ∙ s.frame;
       lines = same_returns ∙ s.lines;
       treated = λ i z below here. ⊎_elim
-          (λ e. let same : x ≡ z = some_is x z (sym (adds.extends done x at) ∙ subst (λ n. slice_get nodes' n ≡ Some z) e here) in
+          (λ e. let same : x ≡ z = same_Some x z (sym (adds.extends done x at) ∙ subst (λ n. slice_get nodes' n ≡ Some z) e here) in
           subst (Treated image program nodes' marks' returns') same (record {
             next = next;
             after = t.after;
@@ -137,7 +125,7 @@ search_more image program nodes nodes' parents parents' marks marks' returns ret
           (λ ne. let lt : i < done = omega arith in
           let w' : i < length nodes = omega (arith, lt, slice_get_within nodes done x at) in
           let old : slice_get nodes i ≡ Some (get_or nodes i x) = slice_get-get_or nodes i x w' in
-          let same : get_or nodes i x ≡ z = some_is (get_or nodes i x) z (sym (adds.extends i (get_or nodes i x) old) ∙ here) in
+          let same : get_or nodes i x ≡ z = same_Some (get_or nodes i x) z (sym (adds.extends i (get_or nodes i x) old) ∙ here) in
           treated_more image program nodes nodes' marks marks' returns returns' z adds.extends t.keeps_marks t.keeps_returns
           (s.treated i z lt (old ∙ ap Some same)))
           (cases_eq i done);

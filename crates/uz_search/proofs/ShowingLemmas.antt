@@ -1,13 +1,7 @@
 -- Whether an instance shows something at a position: its results decide it.
-use Rattle.std.proofs.Common.{◌≡◌, ◌≢◌, ℕ, Bool, Option, Result, Ok, Err, sym, subst}
-use Rattle.std.specs.Prelude.{IsTrue, ◌↔◌}
-use Rattle.uz_schedule.specs.declared.kinds.Kind.TheVariants.{Main}
-use Rattle.uz_schedule.specs.declared.lines.EventKind.{EventKind}
-use Rattle.uz_schedule.specs.declared.states.Instance.{Instance}
-use Rattle.uz_transfer.specs.declared.fail.Fail.{Fail}
-use Rattle.uz_rules.specs.declared.next.Next.{Next}
-use Rattle.uz_search.specs.declared.program.Program.{Program}
-use Rattle.uz_search.specs.Following.{Flash, After, Passing, Shows, most_clocks}
+use Rattle.uz_search.proofs.Common.{◌≡◌, ◌≢◌, ℕ, Bool, Option, Result, Ok, Err, sym, subst, IsTrue, ◌↔◌, Main, EventKind, Instance, Fail}
+use Rattle.uz_search.proofs.Common.{Next, Program, Flash, After, Shows, most_clocks}
+use Rattle.uz_search.specs.Following.{Passing}
 use Rattle.uz_search.proofs.OneResult.{one_next, one_result}
 
 module _ (image : Flash) (p : Program) (x : Instance) (y : ℕ) (e : Option EventKind) where

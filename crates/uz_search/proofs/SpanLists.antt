@@ -1,10 +1,9 @@
 -- Ranges that compare equal are one.
-use Rattle.std.proofs.Common.{◌≡◌, true, ◌&&◌, List, [], ◌∷◌, refl, subst}
-use Rattle.std.proofs.lemmas.Bool.{eq-eqb}
+use Rattle.uz_search.proofs.Common.{◌≡◌, true, ◌&&◌, List, [], ◌∷◌, refl, subst, eq-eqb}
 use lib.Pointwise.{pointwise}
 use Rattle.uz_schedule.specs.declared.ranges.Span.{Span}
-use Rattle.uz_schedule.specs.contracts.ranges.SpanPartialEq as spans
 use Rattle.uz_schedule.specs.Exact.{exact_list, exact_span}
+use Rattle.uz_schedule.specs.contracts.ranges.SpanPartialEq as spans
 
 own_span : (a : Span) → (spans.TheImpl.eq-value).it a a ≡ true
 own_span a = λ i. eq-eqb a.lo a.lo refl i && eq-eqb a.hi a.hi refl i

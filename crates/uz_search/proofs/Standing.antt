@@ -1,29 +1,17 @@
 -- What follows an instance stands in the frame as it does.
-use Rattle.std.proofs.Common.{◌≡◌, ℕ, zero, suc, ◌<◌, ◌≤◌, List, map, Option, true, false, refl, sym, ap, ◌∙◌, subst, ⊎_elim, if◌then◌else◌}
-use Rattle.std.proofs.Common.{arith}
-use Rattle.std.specs.List.{flat_map}
-use Rattle.uz_schedule.specs.Limits.{is_top}
-use Rattle.uz_schedule.specs.Schedule.{length_of, next_line, response_clocks}
-use Rattle.uz_schedule.specs.Told.{IsInstanceTold}
-use Rattle.uz_schedule.specs.declared.kinds.Kind.TheVariants.{Handler}
+use Rattle.uz_search.proofs.Common.{◌≡◌, ℕ, zero, suc, ◌<◌, ◌≤◌, List, map, Option, true, false, refl, sym, ap, ◌∙◌, subst, ⊎_elim}
+use Rattle.uz_search.proofs.Common.{if◌then◌else◌, arith, flat_map, is_top, length_of, next_line, response_clocks, IsInstanceTold, Handler}
+use Rattle.uz_search.proofs.Common.{Instance, Next, Program, Stands, ProgramFits, Among, Flash, Follows, entries, entry_at, lines_of}
+use Rattle.uz_search.proofs.Common.{split_at, pieces, IsTree, widened, cases_Bool, same_Some}
 use Rattle.uz_schedule.specs.declared.kinds.Response.{Response}
 use Rattle.uz_schedule.specs.declared.kinds.Response.TheVariants.{Four, Five}
-use Rattle.uz_schedule.specs.declared.states.Instance.{Instance}
-use Rattle.uz_rules.specs.declared.next.Next.{Next}
-use Rattle.uz_search.specs.declared.program.Program.{Program}
-use Rattle.uz_search.specs.Fitting.{Stands, ProgramFits}
-use Rattle.uz_search.specs.Following.{Among, Flash, Follows, entries, entry_at, lines_of, split_at}
-use Rattle.uz_search.specs.Pieces.{pieces}
-use Rattle.uz_search.specs.Visiting.{IsTree}
-use Rattle.uz_search.specs.Widened.{widened}
 use Rattle.uz_search.proofs.FramePlaces.{length_some, next_is, next_below}
-use Rattle.uz_search.proofs.Lists.{of_flat, bool_cases}
+use Rattle.uz_search.proofs.Lists.{of_flat}
 use Rattle.uz_search.proofs.OneResult.{Steps, steps}
 use Rattle.uz_search.proofs.Results.{same_kind, stands_next, back_is_handler}
 use Rattle.uz_search.proofs.SearchingLemmas.{tree_all}
 use Rattle.uz_search.proofs.TimerLaws.{last_clock}
 use Rattle.uz_search.proofs.ToldLaws.{told_so}
-use Rattle.uz_search.proofs.VisitingLemmas.{some_is}
 use Rattle.uz_search.proofs.PiecesLaws.{from_result, result_place, result_rest}
 use Rattle.uz_search.proofs.WidenedLaws.{LeavesRest, SamePlace}
 
@@ -53,10 +41,10 @@ pub record EntryOf (program : Program) (end e : Instance) : Type 0 where
   pub is : entry_at program end c ≡ e
 
 pub entry_of : (program : Program) (end e : Instance) → Among (entries program end) e → EntryOf program end e
-entry_of program end e (zero, h) = record { c = 0; few = omega arith; is = some_is _ e h }
-entry_of program end e (suc zero, h) = record { c = 1; few = omega arith; is = some_is _ e h }
-entry_of program end e (suc (suc zero), h) = record { c = 2; few = omega arith; is = some_is _ e h }
-entry_of program end e (suc (suc (suc zero)), h) = record { c = 3; few = omega arith; is = some_is _ e h }
+entry_of program end e (zero, h) = record { c = 0; few = omega arith; is = same_Some _ e h }
+entry_of program end e (suc zero, h) = record { c = 1; few = omega arith; is = same_Some _ e h }
+entry_of program end e (suc (suc zero), h) = record { c = 2; few = omega arith; is = same_Some _ e h }
+entry_of program end e (suc (suc (suc zero)), h) = record { c = 3; few = omega arith; is = same_Some _ e h }
 entry_of program end e (suc (suc (suc (suc i))), h) = cc
 
 pub stands_entry : (program : Program) (end e : Instance) → ProgramFits program → Stands program end → end.kind ≡ Handler
@@ -94,7 +82,7 @@ stands_more image program fits x y stands follows = ⊎_elim
     let f = from_result program x next y back follows.is in
     stands_so program y f.result (result_place program x next y f) (result_rest program x next y f)
     (stands_next image program fits x stands next s f.result f.there))
-    (bool_cases next.back)
+    (cases_Bool next.back)
   where
     next : Next
     next = follows.next

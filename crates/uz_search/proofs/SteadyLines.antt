@@ -1,45 +1,33 @@
 -- Lines that fall once are steady.
-use Rattle.std.proofs.Common.{◌≡◌, ◌≢◌, ℕ, ◌<◌, ◌≤◌, ◌+◌, List, [], ◌∷◌, map, All, Some, Bool, true, false, ◌&&◌}
-use Rattle.std.proofs.Common.{nat_le, nat_eq, refl, sym, ap, ◌∙◌, subst, ⊎_elim, slice_index, ◌==◌, if◌then◌else◌, true≢false}
-use Rattle.std.proofs.Common.{arith}
-use Rattle.std.proofs.lemmas.Bool.{cases_eq, eq-eqb}
-use Rattle.std.proofs.lemmas.Bool.Decides.{nat_tests}
-use Rattle.std.proofs.lemmas.List.Elements.{All-head, All-tail, All-cons, All-nil}
+use Rattle.uz_search.proofs.Common.{◌≡◌, ◌≢◌, ℕ, ◌<◌, ◌≤◌, ◌+◌, List, [], ◌∷◌, map, All, Some, Bool, true, false, nat_le, nat_eq, refl, sym}
+use Rattle.uz_search.proofs.Common.{ap, ◌∙◌, subst, ⊎_elim, ◌==◌, if◌then◌else◌, arith, cases_eq, eq-eqb, and_parts, nat_tests, All-head}
+use Rattle.uz_search.proofs.Common.{All-tail, length_of, start_of, event_at, EventKind, Sync, Schedule, Mark, Program, ProgramFits}
+use Rattle.uz_search.proofs.Common.{lines_of, IsScheduleOf}
+use Rattle.std.proofs.Common.{slice_index}
+use Rattle.std.proofs.lemmas.List.Elements.{All-cons, All-nil}
+use Rattle.uz_schedule.specs.Schedule.{event_in, event_in_kind, events_of}
 use Rattle.uz_schedule.specs.Limits.{EventsFit, ScheduleFits, rises_from}
-use Rattle.uz_schedule.specs.Schedule.{length_of, start_of, event_at, event_in, event_in_kind, events_of}
 use Rattle.uz_schedule.proofs.Starts.{clocks_within, event_of_place}
 use Rattle.uz_schedule.specs.declared.lines.Event.{Event}
-use Rattle.uz_schedule.specs.declared.lines.EventKind.{EventKind}
-use Rattle.uz_schedule.specs.declared.lines.EventKind.TheVariants.{Sync}
-use Rattle.uz_schedule.specs.declared.lines.Schedule.{Schedule}
 use Rattle.uz_rules.proofs.LimitsHold.{element_holds}
 use Rattle.uz_check.specs.Steady.{IsSteady, IsSteadyLine}
-use Rattle.uz_search.specs.declared.marks.Mark.{Mark}
-use Rattle.uz_search.specs.declared.program.Program.{Program}
-use Rattle.uz_search.specs.Fitting.{ProgramFits}
-use Rattle.uz_search.specs.Following.{lines_of}
 use Rattle.uz_search.specs.Complete.{FallsOnce}
-use Rattle.uz_search.specs.Made.{IsScheduleOf}
-
-both_true : (a b : Bool) → (a && b) ≡ true → (a ≡ true) × (b ≡ true)
-both_true true b h = (refl, h)
-both_true false b h = absurd (true≢false (sym h))
 
 -- of rising clocks none comes before the first
 in_rise : (events : List Event) (least k : ℕ) (e : EventKind) → rises_from least (map (λ e. e.clock) events) ≡ true → event_in events
     k ≡ Some e → least ≤ k
 in_rise [] least k e rise h = cc
 in_rise (d ∷ ds) least k e rise h = by (d.clock == k) refl
-    (λ later. in_rise ds (d.clock + 1) k e (both_true (nat_le least d.clock) (rises_from (d.clock + 1) (map (λ e. e.clock) ds)) rise).1
+    (λ later. in_rise ds (d.clock + 1) k e (and_parts (nat_le least d.clock) (rises_from (d.clock + 1) (map (λ e. e.clock) ds)) rise).1
     later) h
   where
     by : (b : Bool) → (d.clock == k) ≡ b → (event_in ds k ≡ Some e → d.clock + 1 ≤ k) → (if b then Some d.kind else event_in ds k) ≡ Some e
         → least ≤ k
     by true is more g =
-        let low = (both_true (nat_le least d.clock) (rises_from (d.clock + 1) (map (λ e. e.clock) ds)) rise).0 in
+        let low = (and_parts (nat_le least d.clock) (rises_from (d.clock + 1) (map (λ e. e.clock) ds)) rise).0 in
         grind (arith, nat_tests)
     by false is more g =
-        let low = (both_true (nat_le least d.clock) (rises_from (d.clock + 1) (map (λ e. e.clock) ds)) rise).0 in
+        let low = (and_parts (nat_le least d.clock) (rises_from (d.clock + 1) (map (λ e. e.clock) ds)) rise).0 in
         let first : least ≤ d.clock = grind (arith, nat_tests) in
         let after = more g in omega (arith, first, after)
 
@@ -62,7 +50,7 @@ none_later : (long fall least : ℕ) (es : List Event) → All (λ e. e.clock < 
     → ((k : ℕ) → k < long → event_in es k ≡ Some (Sync 0) → k ≡ fall) → All (λ e. e.kind ≢ Sync 0) es
 none_later long fall least [] fits rise low once = All-nil (λ e. e.kind ≢ Sync 0)
 none_later long fall least (d ∷ ds) fits rise low once =
-    let both = both_true (nat_le least d.clock) (rises_from (d.clock + 1) (map (λ e. e.clock) ds)) rise in
+    let both = and_parts (nat_le least d.clock) (rises_from (d.clock + 1) (map (λ e. e.clock) ds)) rise in
     let first : least ≤ d.clock = below least d.clock both.0 in
     All-cons (λ e. e.kind ≢ Sync 0) d ds
     (λ falls. let same = once d.clock (All-head (λ e. e.clock < long) d ds fits) (event_first d ds ∙ ap Some falls) in
@@ -89,7 +77,7 @@ steady_line long fall (e ∷ es) fits rise falls above once = record {
 }
   where
     rises : rises_from (e.clock + 1) (map (λ e. e.clock) es) ≡ true
-    rises = (both_true (nat_le 0 e.clock) (rises_from (e.clock + 1) (map (λ e. e.clock) es)) rise).1
+    rises = (and_parts (nat_le 0 e.clock) (rises_from (e.clock + 1) (map (λ e. e.clock) es)) rise).1
 
     le : fall ≤ e.clock
     le = above e.clock e.kind (All-head (λ e. e.clock < long) e es fits) (event_first e es)

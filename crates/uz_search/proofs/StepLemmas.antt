@@ -1,26 +1,15 @@
 -- One step of the search, and where it stops.
-use Rattle.std.proofs.Common.{◌≡◌, ℕ, ◌<◌, ◌+◌, List, Option, Some, Ok, Err, Result, refl, sym, ap, ◌∙◌, subst, length, slice_get, take}
-use Rattle.std.proofs.Common.{drop, ◌++◌, zero, suc, ◌≤◌, None, replicate, [], arith}
-use Rattle.std.specs.Prelude.{⊤, IfOk}
+use Rattle.uz_search.proofs.Common.{◌≡◌, ℕ, ◌<◌, ◌+◌, List, Option, Some, Ok, Err, Result, refl, sym, ap, ◌∙◌, subst, length, slice_get}
+use Rattle.uz_search.proofs.Common.{take, drop, ◌++◌, zero, suc, ◌≤◌, None, replicate, [], arith, ⊤, slice_get_within, Instance, Next, Fail}
+use Rattle.uz_search.proofs.Common.{Mark, Unpassed, Return, Stop, Found, Program, AddsAll, ComeFrom, IsTree, Flash, After, followers_of}
+use Rattle.uz_search.proofs.Common.{lines_of, Seen, Treats, IsSearch, IsSearchOf, SplitsFrom, StopHolds}
+use Rattle.std.specs.Prelude.{IfOk}
+use Rattle.uz_search.specs.Following.{frame_of}
 use Rattle.std.proofs.lemmas.List.{length-replicate}
-use Rattle.std.proofs.lemmas.Option.{slice_get_within}
-use Rattle.uz_schedule.specs.declared.states.Instance.{Instance}
-use Rattle.uz_rules.specs.declared.next.Next.{Next}
-use Rattle.uz_transfer.specs.declared.fail.Fail.{Fail}
-use Rattle.uz_search.specs.declared.marks.Mark.{Mark}
-use Rattle.uz_search.specs.declared.marks.Mark.TheVariants.{Unpassed}
-use Rattle.uz_search.specs.declared.returns.Return.{Return}
-use Rattle.uz_search.specs.declared.examination.Stop.{Stop}
-use Rattle.uz_search.specs.declared.found.Found.{Found}
-use Rattle.uz_search.specs.declared.examination.Stop.TheVariants as stops
-use Rattle.uz_search.specs.declared.program.Program.{Program}
-use Rattle.uz_search.specs.Visiting.{AddsAll, ComeFrom, IsTree}
-use Rattle.uz_search.specs.Following.{Flash, After, followers_of, frame_of, lines_of}
-use Rattle.uz_search.specs.Marking.{Seen}
 use Rattle.uz_search.specs.Stuck.{IsStuck}
-use Rattle.uz_search.specs.Searching.{Treats, IsSearch, IsSearchOf, SplitsFrom, StopHolds}
 use Rattle.uz_search.proofs.MarkingLemmas.{none_marked}
 use Rattle.uz_search.proofs.SearchingLemmas.{search_more, split_from, whole_back}
+use Rattle.uz_search.specs.declared.examination.Stop.TheVariants as stops
 
 pub come_from : (image : Flash) (program : Program) (nodes : List Instance) (done : ℕ) (x : Instance) (next : Next) (follow : List Instance)
     → slice_get nodes done ≡ Some x → After image program x (Ok next) → follow ≡ followers_of program x next

@@ -1,25 +1,11 @@
 -- OCR1A stays the last clock of a line, and outside handlers nothing becomes known of the timer.
-use Rattle.std.proofs.Common.{◌≡◌, ◌≢◌, ℕ, ◌+◌, ◌-◌, ◌*◌, Option, None, Bool, true, false, not, ◌&&◌, nat_eq, refl, ap}
-use Rattle.std.proofs.Common.{if◌then◌else◌, true≢false, arith}
-use Rattle.std.proofs.lemmas.Bool.Decides.{nat_tests}
-use Rattle.uz_core.specs.declared.machine.AddressMode.{AddressMode}
-use Rattle.uz_core.specs.declared.machine.Effect.{Effect}
-use Rattle.uz_core.specs.declared.machine.Effect.TheVariants.{NoOperation, Load, Store}
-use Rattle.uz_schedule.specs.Ends.{Ends}
-use Rattle.uz_schedule.specs.Limits.{is_length, is_top}
-use Rattle.uz_schedule.specs.declared.header.Head.{Head}
-use Rattle.uz_schedule.specs.declared.kinds.Kind.{Kind}
-use Rattle.uz_schedule.specs.declared.kinds.Kind.TheVariants.{Main, Handler, Alone}
-use Rattle.uz_schedule.specs.declared.states.Instance.{Instance}
-use Rattle.uz_range.specs.Answers.{is_single}
-use Rattle.uz_transfer.specs.declared.fail.Fail.{Fail}
-use Rattle.uz_transfer.specs.declared.fail.Fail.TheVariants as why
-use Rattle.uz_transfer.specs.Kinds.{is_handler}
-use Rattle.uz_transfer.specs.Memory.{address_range}
-use Rattle.uz_transfer.specs.Refusals.{fail_of, flag_fails, io_fails, is_setup_register, mask_fails, may_store, refuse_if}
-use Rattle.uz_transfer.specs.Refusals.{top_fails}
+use Rattle.uz_search.proofs.Common.{◌≡◌, ◌≢◌, ℕ, ◌+◌, ◌-◌, ◌*◌, Option, None, Bool, true, false, not, ◌&&◌, nat_eq, refl, ap, if◌then◌else◌}
+use Rattle.uz_search.proofs.Common.{true≢false, arith, nat_tests, AddressMode, Effect, NoOperation, Load, Store, Ends, is_length, is_top}
+use Rattle.uz_search.proofs.Common.{Head, Kind, Main, Handler, Alone, Instance, is_single, Fail, is_handler, address_range, fail_of}
+use Rattle.uz_search.proofs.Common.{flag_fails, mask_fails, may_store, refuse_if, span_of, value_at}
+use Rattle.uz_transfer.specs.Refusals.{io_fails, is_setup_register, top_fails}
 use Rattle.uz_transfer.specs.Timer.{temp_after, temp_loaded, top_after}
-use Rattle.uz_transfer.specs.Values.{span_of, value_at}
+use Rattle.uz_transfer.specs.declared.fail.Fail.TheVariants as why
 
 -- Lines
 
@@ -29,7 +15,7 @@ last_clock n e = grind (arith, nat_tests)
 
 -- Stores
 
-refused : (b : Bool) (reason : Fail) (later : Option Fail) → refuse_if b reason later ≡ None → (b ≡ false) × (later ≡ None)
+pub refused : (b : Bool) (reason : Fail) (later : Option Fail) → refuse_if b reason later ≡ None → (b ≡ false) × (later ≡ None)
 refused true reason later h = cc
 refused false reason later h = (refl, h)
 

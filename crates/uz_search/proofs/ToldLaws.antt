@@ -1,22 +1,13 @@
 -- A step, a widening and an entry change nothing of an instance but what is told of it.
-use Rattle.std.proofs.Common.{◌≡◌, ℕ, Bool, true, false, Option, Some, None, nat_eq, refl, ap, ◌∙◌, if◌then◌else◌}
+use Rattle.uz_search.proofs.Common.{◌≡◌, ℕ, true, false, Option, Some, None, nat_eq, refl, ap, ◌∙◌, AddressMode}
+use Rattle.uz_search.proofs.Common.{Direct, PostIncrement, PreDecrement, Effect, Binary, Jump, Load, LoadProgram, NoOperation, Store}
+use Rattle.uz_search.proofs.Common.{is_single, Ends, IsInstanceTold, Val, Head, Instance, stored_in, with_cell, with_pointer_range}
+use Rattle.uz_search.proofs.Common.{with_stored, address_range, transfer, span_of, value_at, with_value, cell_place}
+use Rattle.uz_core.specs.declared.machine.Effect.TheVariants.{Return}
+use Rattle.uz_schedule.specs.Told.{instance_told}
+use Rattle.uz_search.proofs.Lists.{choose}
 use Rattle.std.specs.FinMap.{FinMap}
 use Rattle.std.specs.Ordering.{nat_cmp}
-use Rattle.uz_core.specs.declared.machine.AddressMode.{AddressMode}
-use Rattle.uz_core.specs.declared.machine.AddressMode.TheVariants.{Direct, PostIncrement, PreDecrement}
-use Rattle.uz_core.specs.declared.machine.Effect.{Effect}
-use Rattle.uz_core.specs.declared.machine.Effect.TheVariants.{Binary, Jump, Load, LoadProgram, NoOperation, Return, Store}
-use Rattle.uz_range.specs.Answers.{is_single}
-use Rattle.uz_schedule.specs.Ends.{Ends}
-use Rattle.uz_schedule.specs.Told.{instance_told, IsInstanceTold}
-use Rattle.uz_schedule.specs.declared.facts.Val.{Val}
-use Rattle.uz_schedule.specs.declared.header.Head.{Head}
-use Rattle.uz_schedule.specs.declared.states.Instance.{Instance}
-use Rattle.uz_transfer.specs.Memory.{stored_in, with_cell, with_pointer_range, with_stored}
-use Rattle.uz_transfer.specs.Transfer.{transfer}
-use Rattle.uz_transfer.specs.Values.{span_of, value_at, with_value}
-use Rattle.uz_transfer.specs.Memory.{address_range}
-use Rattle.uz_transfer.specs.Kinds.{cell_place}
 
 -- y has all of x that isn't told
 abbrev pub LeavesUntold : Instance → Instance → Type 0
@@ -24,10 +15,6 @@ LeavesUntold x y = instance_told x y ≡ y
 
 pub told_so : (x y : Instance) → LeavesUntold x y → IsInstanceTold x → IsInstanceTold y
 told_so x y leaves told = ap (λ (z : Instance). instance_told z y) told ∙ leaves
-
-either : (b : Bool) (x y z : Instance) → LeavesUntold x y → LeavesUntold x z → LeavesUntold x (if b then y else z)
-either true x y z h k = h
-either false x y z h k = k
 
 pointer_leaves : (mode : AddressMode) (x old y : Instance) → LeavesUntold x y → LeavesUntold x (with_pointer_range mode old y)
 pointer_leaves (PostIncrement p) x old y h = ap (λ (z : Instance). record z {
@@ -49,17 +36,17 @@ cell_leaves (Some j) e x = refl
 cell_leaves None e x = refl
 
 store_leaves : (head : Head) (a : Ends) (v : Val) (x : Instance) → LeavesUntold x (stored_in head a v x)
-store_leaves head a v x = either (is_single a) x (with_stored head a.lo v x) x
-    (either (nat_eq a.lo 0x5F) x _ (with_cell (cell_place head x.kind a.lo) (span_of v) x) refl
+store_leaves head a v x = choose (LeavesUntold x) (is_single a) (with_stored head a.lo v x) x
+    (choose (LeavesUntold x) (nat_eq a.lo 0x5F) _ (with_cell (cell_place head x.kind a.lo) (span_of v) x) refl
     (cell_leaves (cell_place head x.kind a.lo) (span_of v) x)) refl
 
 pub transfer_leaves : (head : Head) (image : FinMap nat_cmp ℕ) (following sampled : ℕ) (e : Effect) (x : Instance)
     → LeavesUntold x (transfer head image following sampled e x)
-transfer_leaves head image following sampled (Binary op d source compare) x = either compare x _ _ refl refl
+transfer_leaves head image following sampled (Binary op d source compare) x = choose (LeavesUntold x) compare _ _ refl refl
 transfer_leaves head image following sampled (Load d from) x = value_leaves d _ x _ (pointer_leaves from x x x refl)
 transfer_leaves head image following sampled (Store to r) x = pointer_leaves to x x (stored_in head (address_range to x)
     (value_at x.regs r) x) (store_leaves head (address_range to x) (value_at x.regs r) x)
-transfer_leaves head image following sampled (LoadProgram d increment) x = value_leaves d _ x _ (either increment x _ x refl refl)
+transfer_leaves head image following sampled (LoadProgram d increment) x = value_leaves d _ x _ (choose (LeavesUntold x) increment _ x refl refl)
 transfer_leaves head image following sampled (Jump target true) x = refl
 transfer_leaves head image following sampled (Jump target false) x = refl
 transfer_leaves head image following sampled (Return true) x = refl

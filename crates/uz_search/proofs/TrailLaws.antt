@@ -1,29 +1,20 @@
 -- Trails of a tree, and distinct instances on trails.
-use Rattle.std.proofs.Common.{◌≡◌, ℕ, zero, suc, ◌≤◌, List, [], ◌∷◌, ◌++◌, Option, Some, Bool, true, false, refl, sym, ap, ◌∙◌, subst}
-use Rattle.std.proofs.Common.{length, slice_get, take, true≢false}
+use Rattle.uz_search.proofs.Common.{◌≡◌, ℕ, zero, suc, ◌≤◌, List, [], ◌∷◌, ◌++◌, Option, Some, Bool, true, false, refl, sym, ap, ◌∙◌, subst}
+use Rattle.uz_search.proofs.Common.{length, slice_get, take, true≢false, Instance, slice_get_within, same_Some, Main, Handler, Program}
+use Rattle.uz_search.proofs.Common.{Mark, Return, Among, Flash, Follows, followers_of, last_of, Leads, IsTree, ReturnAt, IsSearch, Treated}
+use Rattle.uz_search.proofs.Common.{ClosedWithoutReturn, length-take-le}
+use Rattle.uz_search.specs.Trails.{OnTrail}
+use Rattle.uz_search.specs.Refusing.{AreDistinct, AreOnTrails}
 use Rattle.std.specs.List.{IsDistinct, AllByRecursion}
-use Rattle.std.proofs.lemmas.List.{length-take-le}
-use Rattle.uz_schedule.specs.declared.states.Instance.{Instance}
-use Rattle.std.proofs.lemmas.Option.{slice_get_within}
-use Rattle.uz_schedule.specs.declared.kinds.Kind.TheVariants.{Main, Handler}
-use Rattle.uz_search.specs.declared.program.Program.{Program}
-use Rattle.uz_search.specs.declared.marks.Mark.{Mark}
-use Rattle.uz_search.specs.declared.returns.Return.{Return}
-use Rattle.uz_search.specs.Following.{Among, Flash, Follows, followers_of}
-use Rattle.uz_search.specs.Trails.{last_of, Leads, OnTrail}
-use Rattle.uz_search.specs.Visiting.{IsTree}
-use Rattle.uz_search.specs.Returning.{ReturnAt}
-use Rattle.uz_search.specs.Searching.{IsSearch, Treated}
-use Rattle.uz_search.specs.Refusing.{AreDistinct, AreOnTrails, ClosedWithoutReturn}
 use Rattle.uz_search.proofs.OneResult.{one_next, steps}
 use Rattle.uz_search.proofs.Results.{back_is_handler}
-use Rattle.uz_search.proofs.VisitingLemmas.{get_front, some_is}
+use Rattle.uz_search.proofs.VisitingLemmas.{get_front}
 use Rattle.uz_search.proofs.SearchingLemmas.{tree_all}
 
 pub leads_push : (image : Flash) (program : Program) (t : List Instance) (x y : Instance) → Leads image program t → last_of t ≡ Some x
     → Follows image program x y → Leads image program (t ++ y ∷ [])
 leads_push image program [] x y leads last more = tt
-leads_push image program (a ∷ []) x y leads last more = (subst (λ z. Follows image program z y) (sym (some_is a x last)) more, tt)
+leads_push image program (a ∷ []) x y leads last more = (subst (λ z. Follows image program z y) (sym (same_Some a x last)) more, tt)
 leads_push image program (a ∷ b ∷ rest) x y leads last more = (leads.0, leads_push image program (b ∷ rest) x y leads.1 last more)
 
 pub last_push : (t : List Instance) (y : Instance) → last_of (t ++ y ∷ []) ≡ Some y
@@ -62,7 +53,7 @@ module _ {A : Type 0} where
 
   all_at : (P : A → Type 0) (xs : List A) (i : ℕ) (x : A) → AllByRecursion P xs → slice_get xs i ≡ Some x → P x
   all_at P [] i x all h = cc
-  all_at P (y ∷ ys) zero x all h = subst P (some_is y x h) all.0
+  all_at P (y ∷ ys) zero x all h = subst P (same_Some y x h) all.0
   all_at P (y ∷ ys) (suc i) x all h = all_at P ys i x all.1 h
 
   module _ (eq : A → A → Bool) (own : (x : A) → eq x x ≡ true) where
@@ -73,8 +64,8 @@ module _ {A : Type 0} where
     unfolding IsDistinct
     one_place [] d i j x h k = cc
     one_place (y ∷ ys) d zero zero x h k = refl
-    one_place (y ∷ ys) d zero (suc j) x h k = absurd (apart ys j y x d.0 k (some_is y x h))
-    one_place (y ∷ ys) d (suc i) zero x h k = absurd (apart ys i y x d.0 h (some_is y x k))
+    one_place (y ∷ ys) d zero (suc j) x h k = absurd (apart ys j y x d.0 k (same_Some y x h))
+    one_place (y ∷ ys) d (suc i) zero x h k = absurd (apart ys i y x d.0 h (same_Some y x k))
     one_place (y ∷ ys) d (suc i) (suc j) x h k = ap suc (one_place ys d.1 i j x h k)
 
 -- the first instances of a tree, as many as the limit

@@ -1,10 +1,7 @@
 -- How a trail is read back from the parents.
-use Rattle.std.proofs.Common.{◌≡◌, ℕ, List, [], ◌∷◌, ◌++◌, Option, Some, None, slice_get, reverse, refl, sym, subst, ◌∙◌}
-use Rattle.std.proofs.lemmas.List.{reverse-append}
-use Rattle.uz_schedule.specs.declared.states.Instance.{Instance}
-use Rattle.uz_search.specs.declared.program.Program.{Program}
-use Rattle.uz_search.specs.Following.{Flash, Follows}
-use Rattle.uz_search.specs.Trails.{last_of, Leads, IsTrail, AreParents}
+use Rattle.uz_search.proofs.Common.{◌≡◌, ℕ, List, [], ◌∷◌, ◌++◌, Option, Some, None, slice_get, reverse, refl, sym, subst, ◌∙◌}
+use Rattle.uz_search.proofs.Common.{reverse-append, same_Some, Instance, Program, Flash, Follows, last_of, Leads, IsTrail}
+use Rattle.uz_search.specs.Trails.{AreParents}
 
 -- what is read so far, newest last, leads from the instance at `at` to the node
 abbrev pub ReadBack : List Instance → List (Option ℕ) → ℕ → ℕ → List Instance → Type 0
@@ -12,19 +9,13 @@ ReadBack nodes parents node at back = (image : Flash) (program : Program) (x y :
     → AreParents image program nodes parents → slice_get nodes node ≡ Some x → slice_get nodes at ≡ Some y
     → Leads image program (y ∷ reverse back) × (last_of (y ∷ reverse back) ≡ Some x)
 
-pub some_same : {A : Type 0} (a b : A) → Some a ≡ Some b → a ≡ b
-some_same a b h = cc
-
-pub read_none : (nodes : List Instance) (parents : List (Option ℕ)) (node : ℕ) → ReadBack nodes parents node node []
-read_none nodes parents node image program x y are at_node at_y = (tt, sym at_y ∙ at_node)
-
 pub read_more : (nodes : List Instance) (parents : List (Option ℕ)) (node at n : ℕ) (back : List Instance) (z : Instance)
     → ReadBack nodes parents node at back → slice_get parents at ≡ Some (Some n) → slice_get nodes at ≡ Some z
     → ReadBack nodes parents node n (back ++ z ∷ [])
 read_more nodes parents node at n back z so_far parent here image program x y are at_node at_y =
     let before = so_far image program x z are at_node here in
     let came = are.each at z (Some n) here parent in
-    let same : came.0 ≡ y = some_same came.0 y (sym came.1 ∙ at_y) in
+    let same : came.0 ≡ y = same_Some came.0 y (sym came.1 ∙ at_y) in
     let turned : reverse (back ++ z ∷ []) ≡ z ∷ reverse back = reverse-append back (z ∷ []) in
     subst (λ l. Leads image program (y ∷ l) × (last_of (y ∷ l) ≡ Some x)) (sym turned)
     ((subst (λ w. Follows image program w z) same came.2, before.0), before.1)

@@ -1,21 +1,11 @@
 -- What is kept where instances are added.
-use Rattle.std.proofs.Common.{◌≡◌, ℕ, zero, suc, ◌<◌, ◌+◌, ◌⊎◌, ◌∷◌, [], ◌++◌, List, Option, Some, None, Bool, true, false, not, refl, sym}
-use Rattle.std.proofs.Common.{ap, ◌∙◌, subst, length, slice_get, Contains, inl, inr, ⊎_elim, length-append, append_assoc, arith}
-use Rattle.std.proofs.lemmas.Option.{slice_get_within, slice_get-get_or}
-use Rattle.uz_schedule.specs.declared.states.Instance.{Instance}
-use Rattle.uz_search.specs.declared.program.Program.{Program}
-use Rattle.uz_search.specs.Following.{Among, Flash}
-use Rattle.uz_search.specs.Trails.{CameFrom}
-use Rattle.uz_search.specs.Visiting.{Adds, IsTree, Extends, ComeFrom, AddsAll}
-
-pub not_false : (b : Bool) → not b ≡ false → b ≡ true
-not_false true h = refl
-not_false false h = sym h
+use Rattle.uz_search.proofs.Common.{◌≡◌, ℕ, zero, suc, ◌<◌, ◌+◌, ◌⊎◌, ◌∷◌, [], ◌++◌, List, Option, Some, None, refl, sym, ap, ◌∙◌, subst}
+use Rattle.uz_search.proofs.Common.{length, slice_get, Contains, inl, inr, ⊎_elim, length-append, append_assoc, arith, slice_get_within}
+use Rattle.uz_search.proofs.Common.{slice_get-get_or, same_Some, Instance, Program, Among, Flash, CameFrom, IsTree, Extends, ComeFrom}
+use Rattle.uz_search.proofs.Common.{AddsAll, Adds}
+pub use Rattle.std.proofs.lemmas.Option.{same_Some as some_is}
 
 module _ {A : Type 0} where
-  pub some_is : (a b : A) → Some a ≡ Some b → a ≡ b
-  some_is a b h = cc
-
   pub among_from_Contains : (xs : List A) (x : A) → Contains xs x → Among xs x
   among_from_Contains xs x h = (h.0, slice_get-get_or xs h.0 x h.1 ∙ ap Some h.2)
 
@@ -30,7 +20,7 @@ module _ {A : Type 0} where
 
   pub push_cases : (xs : List A) (z : A) (i : ℕ) (x : A) → slice_get (xs ++ z ∷ []) i ≡ Some x
       → (slice_get xs i ≡ Some x) ⊎ ((i ≡ length xs) × (z ≡ x))
-  push_cases [] z zero x h = inr (refl, some_is z x h)
+  push_cases [] z zero x h = inr (refl, same_Some z x h)
   push_cases [] z (suc i) x h = cc
   push_cases (y ∷ xs) z zero x h = inl h
   push_cases (y ∷ xs) z (suc i) x h =
@@ -48,7 +38,7 @@ module _ (image : Flash) (program : Program) where
   pub came_within : (nodes : List Instance) (p : Option ℕ) (q : ℕ) (x : Instance) → p ≡ Some q → CameFrom image program nodes p x
       → q < length nodes
   came_within nodes None q x e h = cc
-  came_within nodes (Some p) q x e h = subst (λ n. n < length nodes) (some_is p q e) (slice_get_within nodes p h.0 h.1)
+  came_within nodes (Some p) q x e h = subst (λ n. n < length nodes) (same_Some p q e) (slice_get_within nodes p h.0 h.1)
 
   tree_push : (nodes : List Instance) (parents : List (Option ℕ)) (item : Instance) (parent : Option ℕ)
       → IsTree image program nodes parents → CameFrom image program nodes parent item
@@ -107,12 +97,10 @@ get_at (x ∷ xs) z ys = get_at xs z ys
 
 -- one more is added
 pub adds_more : (image : Flash) (program : Program) (nodes0 : List Instance) (parent : Option ℕ) (items done : List Instance)
-    (item : Instance) (rest : List Instance)
-    (nodes : List Instance) (parents : List (Option ℕ)) (nodes' : List Instance) (parents' : List (Option ℕ))
-    → items ≡ done ++ item ∷ rest → ComeFrom image program nodes0 parent items → AddsAll image program nodes0 done nodes parents
+    (item : Instance) (nodes : List Instance) (parents : List (Option ℕ)) (nodes' : List Instance) (parents' : List (Option ℕ))
+    → slice_get items (length done) ≡ Some item → ComeFrom image program nodes0 parent items → AddsAll image program nodes0 done nodes parents
     → Adds nodes parents item parent nodes' parents' → AddsAll image program nodes0 (done ++ item ∷ []) nodes' parents'
-adds_more image program nodes0 parent items done item rest nodes parents nodes' parents' cut come so_far adds =
-    let here : slice_get items (length done) ≡ Some item = ap (λ l. slice_get l (length done)) cut ∙ get_at done item rest in
+adds_more image program nodes0 parent items done item nodes parents nodes' parents' here come so_far adds =
     let came = came_more image program nodes0 nodes parent item so_far.extends (come (length done) item here) in
     let more = extends_add nodes parents item parent nodes' parents' adds in
     record {

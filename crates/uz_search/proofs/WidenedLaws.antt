@@ -1,12 +1,6 @@
 -- Widening leaves where an instance stands, and all that no fact speaks of.
-use Rattle.std.proofs.Common.{◌≡◌, List, [], ◌∷◌, Bool, true, false, refl, ap, ◌∙◌, if◌then◌else◌}
-use Rattle.uz_schedule.specs.declared.states.Instance.{Instance}
-use Rattle.uz_search.specs.declared.program.Program.{Program}
-use Rattle.uz_search.specs.declared.widening.Widening.{Widening}
-use Rattle.uz_search.specs.declared.widening.Widening.TheVariants.{Register, Pair}
-use Rattle.uz_search.specs.Widenings.{widened_all, widened_by}
-use Rattle.uz_search.specs.Loosened.{loosened}
-use Rattle.uz_search.specs.Widened.{facts_at, widened}
+use Rattle.uz_search.proofs.Common.{◌≡◌, List, [], ◌∷◌, Bool, true, false, refl, ap, ◌∙◌, if◌then◌else◌, Instance, Program, Widening}
+use Rattle.uz_search.proofs.Common.{Register, Pair, widened_all, widened_by, loosened, facts_at, widened}
 
 -- two instances that differ in registers and pairs alone
 pub record SamePlace (a b : Instance) : Type 0 where

@@ -1,69 +1,36 @@
 -- Each instance on a trail is within limits.
-use Rattle.std.proofs.Common.{◌≡◌, ◌≢◌, ℕ, zero, suc, ◌<◌, ◌≤◌, ◌+◌, ◌-◌, ◌*◌, ◌%◌, List, [], ◌∷◌, map, Option, Some, None, Bool, true}
-use Rattle.std.proofs.Common.{false, not, ◌&&◌, ◌||◌, nat_le, nat_lt, refl, sym, ap, ◌∙◌, subst, ⊎_elim, length, slice_get, slice_set}
-use Rattle.std.proofs.Common.{slice_index_or, replicate, if◌then◌else◌, true≢false, arith}
-use Rattle.std.specs.List.{flat_map}
-use Rattle.std.proofs.Math.Nat.{mod-lt}
-use Rattle.std.proofs.lemmas.Bool.{cases_eq, cases_lt}
-use Rattle.std.proofs.lemmas.Bool.Decides.{nat_tests}
-use Rattle.avr_table.specs.declared.Outcome.{Outcome}
-use Rattle.avr_table.specs.declared.Outcome.TheVariants as outcome
-use Rattle.avr_table.specs.Rows.{clocks_of, words_of}
-use Rattle.uz_core.specs.Effects.{effect_of}
-use Rattle.uz_core.specs.OperandRanges.{EffectFits}
+use Rattle.uz_search.proofs.Common.{◌≡◌, ◌≢◌, ℕ, zero, suc, ◌<◌, ◌≤◌, ◌+◌, ◌-◌, ◌*◌, ◌%◌, List, [], ◌∷◌, map, Some, None, Bool, true, false}
+use Rattle.uz_search.proofs.Common.{not, ◌&&◌, ◌||◌, nat_le, nat_lt, refl, sym, ap, ◌∙◌, subst, ⊎_elim, length, slice_get, slice_set}
+use Rattle.uz_search.proofs.Common.{slice_index_or, replicate, if◌then◌else◌, true≢false, arith, flat_map, mod-lt, cases_eq, cases_lt}
+use Rattle.uz_search.proofs.Common.{cases_Bool, nat_tests, Outcome, clocks_of, words_of, effect_of, EffectFits, Effect, NoOperation, Branch}
+use Rattle.uz_search.proofs.Common.{SkipIf, Jump, JumpTarget, Absolute, Relative, Indirect, Ends, hull, is_within, whole_byte, whole_pair}
+use Rattle.uz_search.proofs.Common.{tracked, BitFits, HeadFits, spans_fit, OldBit, Val, Range, Old, OldFlags, Head, Kind, Handler, Instance}
+use Rattle.uz_search.proofs.Common.{ends, Exit, outcomes, targets, jump_pcs, numbers_from, fail_of, refuse_if, test_of, at_exit}
+use Rattle.uz_search.proofs.Common.{clears_flag, exits_of, following_of, sampled_of, byte_hull, pair_range, span_of, value_at, Next}
+use Rattle.uz_search.proofs.Common.{Program, Widening, Register, Pair, Among, Flash, Follows, entries, order_of_program, split_at, pieces}
+use Rattle.uz_search.proofs.Common.{is_whole, widened_all, widened_by, widened_pair, widened_value, facts_at, widened, ComparedKnown, Each}
+use Rattle.uz_search.proofs.Common.{IsOpen, OldFits, loosened, same_Some, slice_get-get_or, length-set, get_or-set_other, get_or-set_same}
+use Rattle.uz_core.specs.declared.machine.Effect.TheVariants.{Return}
+use Rattle.uz_transfer.specs.Refusals.{target_fails}
+use Rattle.uz_search.specs.Limits.{IsWithinLimits, EndedWithinLimits}
 use Rattle.uz_core.proofs.EffectRanges.{effect_fits}
-use Rattle.uz_core.specs.declared.machine.Effect.{Effect}
-use Rattle.uz_core.specs.declared.machine.Effect.TheVariants.{NoOperation, Branch, SkipIf, Jump, Return}
-use Rattle.uz_core.specs.declared.machine.JumpTarget.{JumpTarget}
-use Rattle.uz_core.specs.declared.machine.JumpTarget.TheVariants.{Absolute, Relative, Indirect}
-use Rattle.uz_schedule.specs.Ends.{Ends, hull, is_within, whole_byte, whole_pair}
 use Rattle.uz_schedule.specs.Instances.{hull_at, span_of_val, old_from}
-use Rattle.uz_schedule.specs.Tracked.{tracked}
-use Rattle.uz_schedule.specs.WellFormed.{BitFits, HeadFits, spans_fit}
-use Rattle.uz_schedule.specs.declared.facts.Bit.TheVariants.{Old as OldBit}
-use Rattle.uz_schedule.specs.declared.facts.Val.{Val}
-use Rattle.uz_schedule.specs.declared.facts.Val.TheVariants.{Range, Old, OldFlags}
-use Rattle.uz_schedule.specs.declared.header.Head.{Head}
-use Rattle.uz_schedule.specs.declared.kinds.Kind.{Kind}
-use Rattle.uz_schedule.specs.declared.kinds.Kind.TheVariants.{Handler}
-use Rattle.uz_schedule.specs.declared.states.Instance.{Instance}
-use Rattle.uz_range.specs.Answers.{ends}
-use Rattle.uz_transfer.specs.declared.fail.Fail.{Fail}
-use Rattle.uz_transfer.specs.declared.fail.Fail.TheVariants as why
-use Rattle.uz_transfer.specs.declared.step.Exit.{Exit}
-use Rattle.uz_transfer.specs.Exits.{outcomes, targets, jump_pcs, numbers_from}
-use Rattle.uz_transfer.specs.Refusals.{fail_of, refuse_if, target_fails}
-use Rattle.uz_transfer.specs.Narrowed.{test_of}
-use Rattle.uz_transfer.specs.Step.{at_exit, clears_flag, exits_of, following_of, sampled_of}
-use Rattle.uz_transfer.specs.Values.{byte_hull, pair_range, span_of, value_at}
-use Rattle.uz_rules.specs.declared.next.Next.{Next}
-use Rattle.uz_search.specs.declared.program.Program.{Program}
-use Rattle.uz_search.specs.declared.widening.Widening.{Widening}
-use Rattle.uz_search.specs.declared.widening.Widening.TheVariants.{Register, Pair}
-use Rattle.uz_search.specs.Following.{Among, Flash, Follows, entries, order_of_program, split_at}
-use Rattle.uz_search.specs.Pieces.{pieces}
-use Rattle.uz_search.specs.Widenings.{is_whole, widened_all, widened_by, widened_pair, widened_value}
-use Rattle.uz_search.specs.Widened.{facts_at, widened}
-use Rattle.uz_search.proofs.Lists.{append_cases, bool_cases, choose, of_flat, of_map}
+use Rattle.uz_search.proofs.TimerLaws.{refused}
+use Rattle.uz_search.proofs.Lists.{append_cases, choose, of_flat, of_map}
 use Rattle.uz_search.proofs.OneResult.{Steps, draft_at, steps}
 use Rattle.uz_search.proofs.Results.{result, same_kind, back_is_handler}
 use Rattle.uz_search.proofs.SearchingLemmas.{tree_all}
 use Rattle.uz_search.proofs.Standing.{entry_of}
-use Rattle.uz_search.proofs.VisitingLemmas.{some_is}
 use Rattle.uz_search.proofs.PiecesLaws.{from_result, result_place}
-use Rattle.uz_search.specs.Limits.{ComparedKnown, Each, IsOpen, OldFits, IsWithinLimits, EndedWithinLimits}
-use Rattle.uz_search.specs.Loosened.{loosened}
 use Rattle.uz_search.proofs.ComparedLimits.{compared_known, nothing_known}
 use Rattle.uz_search.proofs.Loosening.{NearlyKnown, loosened_known, narrowed_nearly}
-use Rattle.uz_search.proofs.Known.{Known, each_set, get_index, get_set_same, get_set_other, index_each, index_set_other}
-use Rattle.uz_search.proofs.Known.{index_set_same, length_set}
+use Rattle.uz_search.proofs.Known.{Known, each_set, index_each}
+use Rattle.uz_search.proofs.MarkingLemmas.{get_set_same, get_set_other}
 use Rattle.uz_search.proofs.KnownStep.{transfer_known}
+use Rattle.avr_table.specs.declared.Outcome.TheVariants as outcome
+use Rattle.uz_transfer.specs.declared.fail.Fail.TheVariants as why
 
 -- Program counters
-
-refused : (b : Bool) (reason : Fail) (later : Option Fail) → refuse_if b reason later ≡ None → (b ≡ false) × (later ≡ None)
-refused true reason later h = cc
-refused false reason later h = (refl, h)
 
 or_false : (a b : Bool) → (a || b) ≡ false → b ≡ false
 or_false true b h = absurd (true≢false h)
@@ -71,11 +38,11 @@ or_false false b h = h
 
 number_below : (a n bound pc : ℕ) → a + n ≤ bound → Among (numbers_from a n) pc → pc < bound
 number_below a zero bound pc le (i, h) = cc
-number_below a (suc n) bound pc le (zero, h) = let same = some_is a pc h in omega (arith, le, same)
+number_below a (suc n) bound pc le (zero, h) = let same = same_Some a pc h in omega (arith, le, same)
 number_below a (suc n) bound pc le (suc i, h) = number_below (suc a) n bound pc (omega (arith, le)) (i, h)
 
 one_pc : (a pc : ℕ) → a < 32768 → Among (a ∷ []) pc → pc < 32768
-one_pc a pc below (zero, h) = subst (λ n. n < 32768) (some_is a pc h) below
+one_pc a pc below (zero, h) = subst (λ n. n < 32768) (same_Some a pc h) below
 one_pc a pc below (suc i, h) = cc
 
 jump_below : (target : JumpTarget) (following pc : ℕ) (x : Instance) → EffectFits (Jump target false) → target_fails target x ≡ false
@@ -199,8 +166,8 @@ set_wider : (regs : List Val) (r j : ℕ) (w : Val) → r < length regs → Wide
     (value_at (slice_set regs r w) j)
 set_wider regs r j w low wide = ⊎_elim
     (λ (same : j ≡ r). subst (λ m. Wider (value_at regs m) (value_at (slice_set regs r w) m)) (sym same)
-    (subst (Wider (value_at regs r)) (sym (index_set_same regs r w (Range (ends 0 255)) low)) wide))
-    (λ (other : j ≢ r). subst (Wider (value_at regs j)) (sym (index_set_other regs r j w (Range (ends 0 255)) other))
+    (subst (Wider (value_at regs r)) (sym (get_or-set_same regs r w (Range (ends 0 255)) low)) wide))
+    (λ (other : j ≢ r). subst (Wider (value_at regs j)) (sym (get_or-set_other regs r j w (Range (ends 0 255)) other))
     (omega arith, omega arith))
     (cases_eq j r)
 
@@ -240,7 +207,7 @@ module _ (head : Head) (kind : Kind) where
       by : (b : Bool) → nat_lt r 32 ≡ b → Known head kind
           (if b then record x { regs = slice_set x.regs r (widened_value fact (slice_index_or x.regs r (Range whole_byte))) } else x)
       by true is = record {
-        register_count = length_set x.regs r (widened_value fact (slice_index_or x.regs r (Range whole_byte))) ∙ h.register_count;
+        register_count = length-set x.regs r (widened_value fact (slice_index_or x.regs r (Range whole_byte))) ∙ h.register_count;
         registers = each_set (OldFits kind) x.regs r (widened_value fact (slice_index_or x.regs r (Range whole_byte))) h.registers
             (value_old kind fact (slice_index_or x.regs r (Range whole_byte)) (index_each (OldFits kind) x.regs r (Range whole_byte)
             h.registers tt));
@@ -261,10 +228,10 @@ module _ (head : Head) (kind : Kind) where
           (λ (same : k ≡ n).
           let len = h.pair_count in
           let e : Ends = widened_pair fact (slice_index_or x.pairs n whole_pair) in
-          let here : e ≡ whole_pair = some_is e whole_pair (sym (get_set_same x.pairs n e (omega (arith, len, low)))
+          let here : e ≡ whole_pair = same_Some e whole_pair (sym (get_set_same x.pairs n e (omega (arith, len, low)))
           ∙ ap (slice_get (slice_set x.pairs n e)) (sym same) ∙ at) in
           let old : slice_index_or x.pairs n whole_pair ≡ whole_pair = pair_whole fact (slice_index_or x.pairs n whole_pair) here in
-          h.hulls k few (ap (slice_get x.pairs) same ∙ get_index x.pairs n whole_pair (omega (arith, len, low)) ∙ ap Some old))
+          h.hulls k few (ap (slice_get x.pairs) same ∙ slice_get-get_or x.pairs n whole_pair (omega (arith, len, low)) ∙ ap Some old))
           (λ (other : k ≢ n). h.hulls k few (sym (get_set_other x.pairs n k (widened_pair fact (slice_index_or x.pairs n whole_pair)) other)
           ∙ at))
           (cases_eq k n)
@@ -274,7 +241,7 @@ module _ (head : Head) (kind : Kind) where
       by true is = record {
         register_count = h.register_count;
         registers = h.registers;
-        pair_count = length_set x.pairs n (widened_pair fact (slice_index_or x.pairs n whole_pair)) ∙ h.pair_count;
+        pair_count = length-set x.pairs n (widened_pair fact (slice_index_or x.pairs n whole_pair)) ∙ h.pair_count;
         hulls = open_still (grind (arith, nat_tests));
         flag_count = h.flag_count;
         flags = h.flags;
@@ -296,7 +263,7 @@ module _ (head : Head) (kind : Kind) where
 
 old_each : (k n : ℕ) → k + n ≤ 32 → Each (OldFits Handler) (old_from k n)
 old_each k zero le i v h = cc
-old_each k (suc n) le zero v h = subst (OldFits Handler) (some_is (Old k) v h) (refl, omega (arith, le))
+old_each k (suc n) le zero v h = subst (OldFits Handler) (same_Some (Old k) v h) (refl, omega (arith, le))
 old_each k (suc n) le (suc i) v h = old_each (suc k) n (omega (arith, le)) i v h
 
 entry_known : (p : Program) (end e : Instance) → NearlyWithin p end → end.kind ≡ Handler → Among (entries p end) e → IsWithinLimits p e
@@ -324,13 +291,13 @@ entry_known p end e h handler there =
     open_all (suc (suc (suc k))) few at = absurd (omega (arith, few))
 
     old_flags : Each (BitFits Handler) (replicate 7 OldBit)
-    old_flags zero b at = subst (BitFits Handler) (some_is OldBit b at) refl
-    old_flags (suc zero) b at = subst (BitFits Handler) (some_is OldBit b at) refl
-    old_flags (suc (suc zero)) b at = subst (BitFits Handler) (some_is OldBit b at) refl
-    old_flags (suc (suc (suc zero))) b at = subst (BitFits Handler) (some_is OldBit b at) refl
-    old_flags (suc (suc (suc (suc zero)))) b at = subst (BitFits Handler) (some_is OldBit b at) refl
-    old_flags (suc (suc (suc (suc (suc zero))))) b at = subst (BitFits Handler) (some_is OldBit b at) refl
-    old_flags (suc (suc (suc (suc (suc (suc zero)))))) b at = subst (BitFits Handler) (some_is OldBit b at) refl
+    old_flags zero b at = subst (BitFits Handler) (same_Some OldBit b at) refl
+    old_flags (suc zero) b at = subst (BitFits Handler) (same_Some OldBit b at) refl
+    old_flags (suc (suc zero)) b at = subst (BitFits Handler) (same_Some OldBit b at) refl
+    old_flags (suc (suc (suc zero))) b at = subst (BitFits Handler) (same_Some OldBit b at) refl
+    old_flags (suc (suc (suc (suc zero)))) b at = subst (BitFits Handler) (same_Some OldBit b at) refl
+    old_flags (suc (suc (suc (suc (suc zero))))) b at = subst (BitFits Handler) (same_Some OldBit b at) refl
+    old_flags (suc (suc (suc (suc (suc (suc zero)))))) b at = subst (BitFits Handler) (same_Some OldBit b at) refl
     old_flags (suc (suc (suc (suc (suc (suc (suc i))))))) b at = cc
 
 -- Results
@@ -386,7 +353,7 @@ within_more image p x y fits h follows = ⊎_elim
     (subst (λ k. ComparedKnown p.head.version k f.result.compared) (sym same.kind) w.compared)))
     (subst (λ k. Known p.head k (widened p z)) (sym same.kind ∙ sym (ap (λ (v : Instance). v.kind) f.is))
     (widened_known p.head f.result.kind p z (f.is_piece.nearly p.head f.result.kind w.known)))))
-    (bool_cases next.back)
+    (cases_Bool next.back)
   where
     next : Next
     next = follows.next

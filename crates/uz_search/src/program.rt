@@ -1,17 +1,17 @@
 //! What a search is told of a program.
 
-ghost use Rattle.std.specs.Prelude.{◌≡◌, ◌-◌, ◌<◌, ◌≤◌, ◌++◌, map, true, Ok, Err, IfOk, IfErr, OnOk, IsFalse, IsTrue};
+ghost use Rattle.std.specs.Prelude.{◌≡◌, ◌-◌, ◌<◌, ◌≤◌, ◌++◌, Ok, Err, IfOk, IfErr, OnOk, IsFalse, IsTrue};
 ghost use Rattle.std.specs.List.{flat_map};
 ghost use Rattle.uz_schedule.specs.Limits.{most_lines};
 ghost use Rattle.uz_schedule.specs.Schedule.{length_of};
 ghost use Rattle.uz_schedule.specs.declared.kinds.Kind.TheVariants.{Main};
 ghost use Rattle.uz_schedule.specs.declared.states.Instance.{Instance};
 ghost use Rattle.uz_search.specs.Widened.{widened};
-ghost use Rattle.uz_search.specs.Following.{Among, After, entry_at, entries, followers_by, lines_of};
+ghost use Rattle.uz_search.specs.Following.{Among, After, entry_at, entries, lines_of};
 ghost use Rattle.uz_search.specs.Fitting.{ProgramFits, Stands};
 
 use crate::facts::Facts;
-use crate::splitting::{Split, split_results};
+use crate::splitting::Split;
 use crate::stuck::is_main;
 use crate::widening::widen;
 use std::alloc::{AllocError, Global};
@@ -113,7 +113,7 @@ pub fn widened_copy(program: &Program, at: &Instance) -> Instance
 }
 
 /// The handler's first states after each of these returns.
-fn entries_after(
+pub(crate) fn entries_after(
     alloc: Global,
     program: &Program,
     ends: &[Instance],
@@ -127,40 +127,6 @@ fn entries_after(
         push_entries(program, end, &mut follow)?;
     }
     Ok(follow)
-}
-
-/// Results, each loosened, and widened by the facts of its program counter.
-fn widened_all(
-    alloc: Global,
-    program: &Program,
-    results: &[Instance],
-) -> Result<Vec<Instance>, AllocError>
-    ensures { IfOk result (λ v. v.items ≡ map (widened program.now) results.now) }
-{
-    let mut follow = Vec::new(alloc);
-    'each: for at in results {
-        follow.push(widened_copy(program, at))?;
-    }
-    Ok(follow)
-}
-
-/// The instances that follow on a trail where this register is split. The pieces of a result are put in place of it.
-pub(crate) fn followers(
-    alloc: Global,
-    program: &Program,
-    split: Option<u8>,
-    next: &mut Next,
-) -> Result<Vec<Instance>, AllocError>
-    requires lines { lines_of program.now ≤ most_lines }
-    requires each { next.old.back ≡ true → (x : Instance) → Among next.old.out.items x → x.line < lines_of program.now }
-    ensures { IfOk result (λ v. v.items ≡ followers_by program.now split next.old) }
-{
-    if next.back {
-        entries_after(alloc, program, next.out.as_slice())
-    } else {
-        split_results(split, &mut next.out);
-        widened_all(alloc, program, next.out.as_slice())
-    }
 }
 
 /// Whether some start is of main.

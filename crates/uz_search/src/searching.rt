@@ -19,12 +19,12 @@ use crate::found::{Found, NotFound};
 use crate::instances::Instances;
 use crate::marks::{Mark, unpassed};
 use crate::passing::line_start;
-use crate::program::{Program, copied_starts, followers, starts_in_main};
+use crate::program::{Program, copied_starts, entries_after, starts_in_main};
 use crate::returns::{Return, is_without_return};
-use crate::splitting::split_at;
+use crate::splitting::{split_at, split_results};
 use crate::successors::Successors;
 use crate::trail::{node_at, trail_to};
-use crate::visited::add_all;
+use crate::visited::{add_all, add_widened};
 use indexmap::IndexSet;
 use std::alloc::{AllocError, Global};
 use uz_hex::Image;
@@ -62,7 +62,8 @@ fn refused(
     }
 }
 
-/// Adds what follows the instance of this number, which has these results, and at which this register is split.
+/// Adds what follows the instance of this number, which has these results, and at which this register is split. The pieces of a result
+/// are put in place of it.
 fn add_followers(
     alloc: Global,
     program: &Program,
@@ -81,16 +82,21 @@ fn add_followers(
     ensures marks { found.new.marks ≡ found.old.marks }
     ensures returns { found.new.returns ≡ found.old.returns }
 {
-    let follow = followers(alloc, program, split, next)?;
     found.successors.begin()?;
-    add_all(
-        &mut found.nodes,
-        &mut found.parents,
-        &mut found.successors,
-        follow,
-        Some(done),
-        !next.back,
-    )
+    if next.back {
+        let entries = entries_after(alloc, program, next.out.as_slice())?;
+        add_all(&mut found.nodes, &mut found.parents, entries, Some(done))
+    } else {
+        split_results(split, &mut next.out);
+        add_widened(
+            program,
+            &mut found.nodes,
+            &mut found.parents,
+            &mut found.successors,
+            next.out.as_slice(),
+            done,
+        )
+    }
 }
 
 /// Treats the instance of this number: asks it, and adds what follows it. Its results are put in place of others.
@@ -163,14 +169,7 @@ fn started(
         returns,
         successors: Successors::new(alloc),
     };
-    match add_all(
-        &mut found.nodes,
-        &mut found.parents,
-        &mut found.successors,
-        starts,
-        None,
-        false,
-    ) {
+    match add_all(&mut found.nodes, &mut found.parents, starts, None) {
         Ok(()) => Ok(found),
         Err(error) => {
             drop(found);

@@ -1,6 +1,6 @@
 //! Splits: each result of main goes on in pieces, by the values of one register.
 
-ghost use Rattle.std.specs.Prelude.{◌≡◌, ◌<◌, ◌≤◌, ◌+◌, ◌*◌, ◌++◌, [], true, length};
+ghost use Rattle.std.specs.Prelude.{◌≡◌, ◌<◌, ◌≤◌, ◌+◌, ◌*◌, ◌++◌, [], true, Some, length};
 ghost use Rattle.uz_schedule.specs.declared.facts.Val.TheVariants.{Range};
 ghost use Rattle.uz_transfer.specs.Values.{span_of as range_of, value_at, with_value};
 ghost use Rattle.uz_search.specs.Following.{split_at as register_at};
@@ -155,16 +155,26 @@ fn add_results(results: &[Instance], register: u8, most: u16, out: &mut ArrayVec
     }
 }
 
+/// Puts the pieces of results in place of them, by the values of this register. It keeps room for 16 instances, so a search
+/// that splits nothing never calls it.
+#[inline(never)]
+fn put_in_pieces(register: u8, out: &mut ArrayVec<Instance, 16>)
+    ensures { out.new.items ≡ pieces (Some register) out.old.items }
+{
+    let count = out.len() as u16;
+    if count > 0 {
+        let results = take(out);
+        add_results(results.as_slice(), register, 16 / count, out);
+    }
+}
+
 /// Puts the pieces of results in place of them, where a register is split.
+#[inline(always)]
 pub(crate) fn split_results(split: Option<u8>, out: &mut ArrayVec<Instance, 16>)
     ensures { out.new.items ≡ pieces split out.old.items }
 {
     if let Some(register) = split {
-        let count = out.len() as u16;
-        if count > 0 {
-            let results = take(out);
-            add_results(results.as_slice(), register, 16 / count, out);
-        }
+        put_in_pieces(register, out);
     }
 }
 

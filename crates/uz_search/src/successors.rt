@@ -31,11 +31,9 @@ impl Successors {
         Ok(())
     }
 
-    /// Puts a place into the last part, where it is `named`.
-    pub(crate) fn put(&mut self, place: usize, named: bool) -> Result<(), AllocError> {
-        if named {
-            self.places.push(number_of(place))?;
-        }
+    /// Puts a place into the last part.
+    pub(crate) fn put(&mut self, place: usize) -> Result<(), AllocError> {
+        self.places.push(number_of(place))?;
         Ok(())
     }
 

@@ -1,5 +1,4 @@
-use Rattle.std.proofs.Common.{◌-◌, ◌≡◌, ◌∙◌, Some, arith, length, refl, slice_get, suc, sym}
-use Rattle.std.proofs.lemmas.Option.{slice_get_read}
+use Rattle.uz_search.proofs.Common.{◌-◌, ◌≡◌, ◌∙◌, Some, arith, length, refl, slice_get, suc, sym, slice_get_read}
 use Rattle.uz_search.proofs.ChainLemmas.{goes_in, goes_over, goes_past}
 use Rattle.uz_search.proofs.chain.end_of.Goals as goal
 

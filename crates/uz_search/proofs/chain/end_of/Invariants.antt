@@ -1,6 +1,4 @@
-use Rattle.std.proofs.Common.{◌≡◌, ◌≤◌, length}
-use Rattle.uz_search.specs.Places.{folded}
-use Rattle.uz_search.specs.Chains.{ranges_below}
+use Rattle.uz_search.proofs.Common.{◌≡◌, ◌≤◌, length, folded, ranges_below}
 use Rattle.uz_search.proofs.chain.end_of.Given as goal
 
 -- the range goes over the facts that are left as over all

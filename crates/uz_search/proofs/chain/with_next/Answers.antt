@@ -1,5 +1,4 @@
-use Rattle.std.proofs.Common.{◌-◌, length, arith, refl}
-use Rattle.std.proofs.lemmas.Option.{slice_get_read}
+use Rattle.uz_search.proofs.Common.{◌-◌, length, arith, refl, slice_get_read}
 use Rattle.uz_search.proofs.ChainLemmas.{is_joined}
 use Rattle.uz_search.proofs.chain.with_next.Goals as goal
 

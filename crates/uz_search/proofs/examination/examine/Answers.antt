@@ -1,18 +1,9 @@
-use Rattle.std.proofs.Common.{◌≡◌, ◌<◌, ◌+◌, ℕ, List, Option, Some, Result, Ok, Err, inl, inr, sym, subst, slice_get, arith}
-use Rattle.std.specs.Prelude.{⊤}
-use Rattle.std.proofs.lemmas.Option.{slice_get_within}
-use Rattle.uz_transfer.specs.declared.fail.Fail.{Fail}
-use Rattle.uz_search.specs.declared.examination.Stop.{Stop}
+use Rattle.uz_search.proofs.Common.{◌≡◌, ◌<◌, ◌+◌, ℕ, List, Option, Some, Result, Ok, Err, inl, inr, sym, subst, slice_get, arith, ⊤}
+use Rattle.uz_search.proofs.Common.{slice_get_within, Fail, Stop, Instance, Next, Mark, Shown, Program, StuckWith, AreMarked, MarksWay}
+use Rattle.uz_search.proofs.Common.{NotesEnd, After, Flash, place_on}
+use Rattle.uz_search.specs.Searching.{ShownBefore}
 use Rattle.uz_search.specs.declared.examination.Stop.TheVariants.{Split, Stuck}
-use Rattle.uz_schedule.specs.declared.states.Instance.{Instance}
-use Rattle.uz_rules.specs.declared.next.Next.{Next}
-use Rattle.uz_search.specs.declared.marks.Mark.{Mark}
-use Rattle.uz_search.specs.declared.marks.Shown.{Shown}
-use Rattle.uz_search.specs.declared.program.Program.{Program}
-use Rattle.uz_search.specs.Stuck.{StuckWith}
-use Rattle.uz_search.specs.Searching.{AreMarked, MarksWay, NotesEnd, ShownBefore}
 use Rattle.uz_search.proofs.OneResult.{steps}
-use Rattle.uz_search.specs.Following.{After, Flash, place_on}
 use Rattle.uz_search.proofs.Results.{apart_main, passes_within, some_result, stands_next}
 use Rattle.uz_search.proofs.SearchingLemmas.{treats_from}
 use Rattle.uz_search.proofs.examination.examine.Goals as goal

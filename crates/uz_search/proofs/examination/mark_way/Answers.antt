@@ -1,6 +1,4 @@
-use Rattle.std.proofs.Common.{◌≤◌, ℕ, subst, ap, ◌∙◌}
-use Rattle.uz_search.specs.Marking.{MarksAll}
-use Rattle.uz_search.specs.Following.{most_clocks}
+use Rattle.uz_search.proofs.Common.{◌≤◌, ℕ, subst, ap, ◌∙◌, MarksAll, most_clocks}
 use Rattle.uz_search.proofs.Lists.{not_in_main}
 use Rattle.uz_search.proofs.SearchingLemmas.{way_from_all}
 use Rattle.uz_search.proofs.examination.mark_way.Goals as goal

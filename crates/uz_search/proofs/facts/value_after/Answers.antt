@@ -1,6 +1,4 @@
-use Rattle.std.proofs.Common.{◌≡◌, ◌≤◌, ap, arith}
-use Rattle.uz_schedule.specs.Ends.{Ends}
-use Rattle.uz_search.specs.Places.{folded}
+use Rattle.uz_search.proofs.Common.{◌≡◌, ◌≤◌, ap, arith, Ends, folded}
 use Rattle.uz_search.proofs.PlaceLemmas.{byte_still}
 use Rattle.uz_search.proofs.facts.value_after.Goals as goal
 

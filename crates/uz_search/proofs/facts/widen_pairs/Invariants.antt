@@ -1,6 +1,4 @@
-use Rattle.std.proofs.Common.{◌≡◌, ◌+◌, ◌<◌, ◌≤◌, ℕ, [], length, slice_index_or}
-use Rattle.uz_schedule.specs.Ends.{whole_pair}
-use Rattle.uz_search.specs.Places.{folded}
+use Rattle.uz_search.proofs.Common.{◌≡◌, ◌+◌, ◌<◌, ◌≤◌, ℕ, [], length, slice_index_or, whole_pair, folded}
 use Rattle.uz_search.proofs.facts.widen_pairs.Given as goal
 
 -- the pairs so far are widened, the others are as they were

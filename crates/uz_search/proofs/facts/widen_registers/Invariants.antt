@@ -1,7 +1,4 @@
-use Rattle.std.proofs.Common.{◌≡◌, ◌<◌, ◌≤◌, ℕ, [], length, slice_index_or}
-use Rattle.uz_schedule.specs.Ends.{whole_byte}
-use Rattle.uz_schedule.specs.declared.facts.Val.TheVariants.{Range}
-use Rattle.uz_search.specs.Places.{folded_value}
+use Rattle.uz_search.proofs.Common.{◌≡◌, ◌<◌, ◌≤◌, ℕ, [], length, slice_index_or, whole_byte, Range, folded_value}
 use Rattle.uz_search.proofs.facts.widen_registers.Given as goal
 
 -- the registers so far are widened, the others are as they were

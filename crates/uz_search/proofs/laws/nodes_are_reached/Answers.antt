@@ -1,6 +1,4 @@
-use Rattle.std.proofs.Common.{subst}
-use Rattle.std.proofs.lemmas.Option.{slice_get_within}
-use Rattle.uz_search.specs.Following.{Among, followers_of}
+use Rattle.uz_search.proofs.Common.{subst, slice_get_within, Among, followers_of}
 use Rattle.uz_search.proofs.OneResult.{one_next}
 use Rattle.uz_search.proofs.Standing.{stands_all}
 use Rattle.uz_search.proofs.TrailLaws.{all_on_trails}

@@ -1,7 +1,4 @@
-use Rattle.std.proofs.Common.{◌+◌, ◌<◌, length, ℕ, Option, None, subst, sym, arith}
-use Rattle.uz_schedule.specs.declared.lines.EventKind.{EventKind}
-use Rattle.uz_search.specs.Following.{place_on, shown_at}
-use Rattle.uz_search.specs.Marking.{MarksOne}
+use Rattle.uz_search.proofs.Common.{◌+◌, ◌<◌, length, ℕ, Option, None, subst, sym, arith, EventKind, place_on, shown_at, MarksOne}
 use Rattle.uz_search.proofs.MarkingLemmas.{seen_more, own_more}
 use Rattle.uz_search.proofs.marks.mark_all.Goals as goal
 

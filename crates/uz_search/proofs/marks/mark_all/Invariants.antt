@@ -1,6 +1,4 @@
-use Rattle.std.proofs.Common.{ℕ, ◌≤◌}
-use Rattle.uz_search.specs.Following.{place_on, shown_at}
-use Rattle.uz_search.specs.Marking.{KeepsMarks, MarksOwn, Seen}
+use Rattle.uz_search.proofs.Common.{ℕ, ◌≤◌, place_on, shown_at, KeepsMarks, MarksOwn, Seen}
 use Rattle.uz_search.proofs.marks.mark_all.Given as goal
 
 abbrev pub invariant-each : goal.invariant-each

@@ -1,5 +1,4 @@
-use Rattle.std.proofs.Common.{◌≡◌, ◌<◌, max, drop}
-use Rattle.uz_search.specs.Following.{most_clocks}
+use Rattle.uz_search.proofs.Common.{◌≡◌, ◌<◌, max, drop, most_clocks}
 use Rattle.uz_search.proofs.passing.most_clocks.Given as goal
 
 abbrev pub invariant-each : goal.invariant-each

@@ -1,6 +1,4 @@
-use Rattle.std.proofs.Common.{Some, sym, ap, ◌∙◌}
-use Rattle.std.proofs.lemmas.Option.{slice_get-get_or}
-use Rattle.uz_search.specs.Following.{entries}
+use Rattle.uz_search.proofs.Common.{Some, sym, ap, ◌∙◌, slice_get-get_or, entries}
 use Rattle.uz_search.proofs.Lists.{flat_next}
 use Rattle.uz_search.proofs.program.entries_after.Goals as goal
 

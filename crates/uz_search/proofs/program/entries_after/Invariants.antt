@@ -1,6 +1,4 @@
-use Rattle.std.proofs.Common.{◌≡◌, ◌++◌, drop}
-use Rattle.std.specs.List.{flat_map}
-use Rattle.uz_search.specs.Following.{entries}
+use Rattle.uz_search.proofs.Common.{◌≡◌, ◌++◌, drop, flat_map, entries}
 use Rattle.uz_search.proofs.program.entries_after.Given as goal
 
 abbrev pub invariant-each : goal.invariant-each

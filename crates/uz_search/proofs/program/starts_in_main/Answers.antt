@@ -1,6 +1,5 @@
-use Rattle.std.proofs.Common.{◌≡◌, ◌∙◌, sym}
+use Rattle.uz_search.proofs.Common.{◌≡◌, ◌∙◌, sym, Main}
 use Rattle.std.proofs.lemmas.Bool.{false≢true}
-use Rattle.uz_schedule.specs.declared.kinds.Kind.TheVariants.{Main}
 use Rattle.uz_search.proofs.Lists.{each_next}
 use Rattle.uz_search.proofs.program.starts_in_main.Goals as goal
 

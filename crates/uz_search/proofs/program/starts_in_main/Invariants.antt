@@ -1,6 +1,4 @@
-use Rattle.std.proofs.Common.{◌≡◌, ◌<◌, ℕ, Some, slice_get}
-use Rattle.uz_schedule.specs.declared.kinds.Kind.TheVariants.{Main}
-use Rattle.uz_schedule.specs.declared.states.Instance.{Instance}
+use Rattle.uz_search.proofs.Common.{◌≡◌, ◌<◌, ℕ, Some, slice_get, Main, Instance}
 use Rattle.uz_search.proofs.program.starts_in_main.Given as goal
 
 -- none so far is of main

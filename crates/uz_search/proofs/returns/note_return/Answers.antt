@@ -1,5 +1,4 @@
-use Rattle.std.proofs.Common.{◌∙◌, ap, Some}
-use Rattle.std.proofs.lemmas.Option.{slice_get-get_or}
+use Rattle.uz_search.proofs.Common.{◌∙◌, ap, Some, slice_get-get_or}
 use Rattle.uz_search.proofs.ReturningLemmas.{noted}
 use Rattle.uz_search.proofs.returns.note_return.Goals as goal
 

@@ -1,6 +1,4 @@
-use Rattle.std.proofs.Common.{◌∙◌, ap, replicate, None}
-use Rattle.uz_search.specs.declared.marks.Mark.TheVariants.{Unpassed}
-use Rattle.uz_search.specs.Following.{line_start}
+use Rattle.uz_search.proofs.Common.{◌∙◌, ap, replicate, None, Unpassed, line_start}
 use Rattle.uz_search.proofs.StepLemmas.{begun}
 use Rattle.uz_search.proofs.searching.begin.Goals as goal
 

@@ -1,5 +1,4 @@
-use Rattle.std.proofs.Common.{◌<◌, ◌-◌}
-use Rattle.uz_search.specs.Searching.{IsSearchOf}
+use Rattle.uz_search.proofs.Common.{◌<◌, ◌-◌, IsSearchOf}
 use Rattle.uz_search.proofs.searching.explore.Given as goal
 
 abbrev pub invariant-work : goal.invariant-work

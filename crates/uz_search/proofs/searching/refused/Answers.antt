@@ -1,5 +1,4 @@
-use Rattle.std.proofs.Common.{subst}
-use Rattle.uz_search.specs.Searching.{StopHolds}
+use Rattle.uz_search.proofs.Common.{subst, StopHolds}
 use Rattle.uz_search.proofs.searching.refused.Goals as goal
 
 pub returns-in-Ok-Ok : goal.returns-in-Ok-Ok

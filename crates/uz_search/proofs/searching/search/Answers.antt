@@ -1,16 +1,11 @@
-use Rattle.std.proofs.Common.{◌≡◌, ℕ, refl, sym, subst, List, Option}
-use Rattle.uz_schedule.specs.declared.kinds.Kind.TheVariants.{Main}
-use Rattle.uz_schedule.specs.declared.states.Instance.{Instance}
+use Rattle.uz_search.proofs.Common.{◌≡◌, ℕ, refl, sym, subst, List, Option, Main, Instance, Return, Among, ReturnAt, ClosedWithoutReturn}
+use Rattle.uz_search.specs.Returning.{SomeReturn}
 use Rattle.uz_schedule.specs.contracts.states.InstanceEq.TheImpl.Laws.{laws-law}
-use Rattle.uz_schedule.specs.contracts.states.InstancePartialEq as instances
-use Rattle.uz_search.specs.declared.returns.Return.{Return}
-use Rattle.uz_search.specs.Following.{Among}
-use Rattle.uz_search.specs.Returning.{ReturnAt, SomeReturn}
-use Rattle.uz_search.specs.Refusing.{ClosedWithoutReturn}
 use Rattle.uz_search.proofs.TrailLaws.{closed_without, one_place}
-use Rattle.uz_search.proofs.searching.search.Goals as goal
 use Rattle.uz_search.proofs.searching.search.Goals.{else-starts_in_main-via-then-starts_in_main+else-is_without_return}
 use Rattle.uz_search.proofs.searching.search.Goals.{else-starts_in_main-via-else-starts_in_main}
+use Rattle.uz_schedule.specs.contracts.states.InstancePartialEq as instances
+use Rattle.uz_search.proofs.searching.search.Goals as goal
 
 pub returns-then-is_without_return-clause-refusal : goal.returns-then-is_without_return-clause-refusal
 returns-then-is_without_return-clause-refusal c =

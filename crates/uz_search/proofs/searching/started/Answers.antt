@@ -1,8 +1,4 @@
-use Rattle.std.proofs.Common.{ℕ, None, Option, List, [], subst}
-use Rattle.uz_schedule.specs.declared.states.Instance.{Instance}
-use Rattle.uz_search.specs.declared.program.Program.{Program}
-use Rattle.uz_search.specs.Following.{Flash}
-use Rattle.uz_search.specs.Visiting.{IsTree, ComeFrom, AddsAll}
+use Rattle.uz_search.proofs.Common.{ℕ, None, Option, List, [], subst, Instance, Program, Flash, IsTree, ComeFrom, AddsAll}
 use Rattle.uz_search.proofs.StepLemmas.{search_begin}
 use Rattle.uz_search.proofs.searching.started.Goals as goal
 

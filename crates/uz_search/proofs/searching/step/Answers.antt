@@ -1,8 +1,6 @@
-use Rattle.std.proofs.Common.{◌≡◌, ℕ, Option, ◌<◌, ◌+◌, ◌++◌, length, slice_get, take, drop, Some, Err, refl, sym, subst, ap, ◌∙◌}
-use Rattle.uz_search.specs.declared.program.Program.{Program}
-use Rattle.uz_search.specs.Following.{Flash, followers_by, followers_of}
-use Rattle.uz_search.specs.Visiting.{AddsAll, ComeFrom, IsTree}
-use Rattle.uz_search.specs.Searching.{AreMarked, IsSearch, StopHolds}
+use Rattle.uz_search.proofs.Common.{◌≡◌, ℕ, Option, ◌<◌, ◌+◌, ◌++◌, length, slice_get, take, drop, Some, Err, refl, sym, subst, ap, ◌∙◌}
+use Rattle.uz_search.proofs.Common.{Program, Flash, followers_of, AddsAll, ComeFrom, IsTree, AreMarked, IsSearch, StopHolds}
+use Rattle.uz_search.specs.Following.{followers_by}
 use Rattle.uz_search.proofs.OneResult.{steps}
 use Rattle.uz_search.proofs.Results.{stands_next}
 use Rattle.uz_search.proofs.Standing.{stands_all}

@@ -1,8 +1,5 @@
-use Rattle.std.proofs.Common.{◌≡◌, ◌≢◌, Some, refl, sym, ◌∙◌, subst, slice_get, true≢false, ⊎_elim, arith}
-use Rattle.std.proofs.lemmas.Bool.{cases_eq}
-use Rattle.uz_schedule.specs.declared.states.Instance.{Instance}
-use Rattle.uz_search.specs.Following.{Shows}
-use Rattle.uz_search.proofs.VisitingLemmas.{some_is}
+use Rattle.uz_search.proofs.Common.{◌≡◌, ◌≢◌, Some, refl, sym, ◌∙◌, subst, slice_get, true≢false, ⊎_elim, arith, cases_eq, Instance, Shows}
+use Rattle.uz_search.proofs.Common.{same_Some}
 use Rattle.uz_search.proofs.showing.first_to_show.Goals as goal
 
 pub shows-requires-clause-stands : goal.shows-requires-clause-stands
@@ -15,7 +12,7 @@ pub each-preserved : goal.each-preserved
 each-preserved c = λ i x below at shows. ⊎_elim
     (λ (same : i ≡ c.each.number).
     let node = c.node_at.result.now in
-    let is : x ≡ node = some_is x node (sym (subst (λ n. slice_get c.args.nodes.now n ≡ Some x) same at) ∙ c.node_at.ensures) in
+    let is : x ≡ node = same_Some x node (sym (subst (λ n. slice_get c.args.nodes.now n ≡ Some x) same at) ∙ c.node_at.ensures) in
     true≢false (sym (c.if-shows.ensures.1
     (subst (λ (z : Instance). Shows c.args.image.now c.args.program.now z c.args.shown.place c.args.shown.event) is shows))))
     (λ (other : i ≢ c.each.number). c.each.invariant i x (omega arith) at shows)

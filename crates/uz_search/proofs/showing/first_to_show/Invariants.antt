@@ -1,6 +1,4 @@
-use Rattle.std.proofs.Common.{◌≡◌, ◌<◌, ℕ, Some, slice_get}
-use Rattle.uz_schedule.specs.declared.states.Instance.{Instance}
-use Rattle.uz_search.specs.Following.{Shows}
+use Rattle.uz_search.proofs.Common.{◌≡◌, ◌<◌, ℕ, Some, slice_get, Instance, Shows}
 use Rattle.uz_search.proofs.showing.first_to_show.Given as goal
 
 -- none so far shows it

@@ -1,5 +1,4 @@
-use Rattle.std.proofs.Common.{ap, sym, ◌∙◌, true≢false}
-use Rattle.uz_search.specs.Following.{most_clocks}
+use Rattle.uz_search.proofs.Common.{ap, sym, ◌∙◌, true≢false, most_clocks}
 use Rattle.uz_search.proofs.ShowingLemmas.{shows_with, shows_nothing}
 use Rattle.uz_search.proofs.showing.shows.Goals as goal
 

@@ -1,7 +1,4 @@
-use Rattle.std.proofs.Common.{List}
-use Rattle.uz_schedule.specs.declared.states.Instance.{Instance}
-use Rattle.uz_transfer.specs.Values.{span_of, value_at}
-use Rattle.uz_search.specs.Pieces.{pieces_each, pieces_of}
+use Rattle.uz_search.proofs.Common.{Instance, span_of, value_at, pieces_each, pieces_of}
 use Rattle.uz_search.proofs.Lists.{flat_next}
 use Rattle.uz_search.proofs.PiecesLaws.{result_more}
 use Rattle.uz_search.proofs.splitting.add_results.Goals as goal

@@ -1,5 +1,4 @@
-use Rattle.std.proofs.Common.{◌≡◌, ◌≤◌, ◌*◌, ◌++◌, drop, length}
-use Rattle.uz_search.specs.Pieces.{pieces_each}
+use Rattle.uz_search.proofs.Common.{◌≡◌, ◌≤◌, ◌*◌, ◌++◌, drop, length, pieces_each}
 use Rattle.uz_search.proofs.splitting.add_results.Given as goal
 
 abbrev pub invariant-each : goal.invariant-each

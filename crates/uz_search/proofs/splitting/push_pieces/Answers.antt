@@ -1,6 +1,5 @@
-use Rattle.std.proofs.Common.{◌≡◌, ◌-◌, ◌/◌, ◌+◌, ap, sym, zero-mul, arith, length}
+use Rattle.uz_search.proofs.Common.{◌≡◌, ◌-◌, ◌/◌, ◌+◌, ap, sym, zero-mul, arith, length, first_pieces, piece_size}
 use Rattle.std.proofs.lemmas.List.{append-nil}
-use Rattle.uz_search.specs.Pieces.{first_pieces, piece_size}
 use Rattle.uz_search.proofs.PiecesLaws.{few_more, from_more, pieces_more, room_more}
 use Rattle.uz_search.proofs.splitting.push_pieces.Goals as goal
 

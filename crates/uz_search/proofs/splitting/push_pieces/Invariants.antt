@@ -1,5 +1,4 @@
-use Rattle.std.proofs.Common.{◌≡◌, ◌≤◌, ◌+◌, ◌*◌, ◌++◌, length}
-use Rattle.uz_search.specs.Pieces.{first_pieces, piece_size}
+use Rattle.uz_search.proofs.Common.{◌≡◌, ◌≤◌, ◌+◌, ◌*◌, ◌++◌, length, first_pieces, piece_size}
 use Rattle.uz_search.proofs.splitting.push_pieces.Given as goal
 
 abbrev pub invariant-each : goal.invariant-each

@@ -1,5 +1,4 @@
-use Rattle.std.proofs.Common.{◌≡◌, drop}
-use Rattle.uz_search.specs.Pieces.{split_in}
+use Rattle.uz_search.proofs.Common.{◌≡◌, drop, split_in}
 use Rattle.uz_search.proofs.splitting.split_in.Given as goal
 
 abbrev pub invariant-each : goal.invariant-each

@@ -1,5 +1,4 @@
-use Rattle.std.proofs.Common.{◌≡◌, ◌∙◌, sym, true}
-use Rattle.uz_rules.specs.Inside.{restored}
+use Rattle.uz_search.proofs.Common.{◌≡◌, ◌∙◌, sym, true, restored}
 use Rattle.uz_search.proofs.Lists.{each_next}
 use Rattle.uz_search.proofs.stuck.has_unrestored.Goals as goal
 

@@ -1,6 +1,4 @@
-use Rattle.std.proofs.Common.{◌≡◌, ◌<◌, ℕ, Some, true, slice_get}
-use Rattle.uz_schedule.specs.declared.states.Instance.{Instance}
-use Rattle.uz_rules.specs.Inside.{restored}
+use Rattle.uz_search.proofs.Common.{◌≡◌, ◌<◌, ℕ, Some, true, slice_get, Instance, restored}
 use Rattle.uz_search.proofs.stuck.has_unrestored.Given as goal
 
 abbrev pub invariant-each : goal.invariant-each

@@ -1,7 +1,4 @@
-use Rattle.std.proofs.Common.{ℕ, Option, ap, ◌∙◌}
-use Rattle.uz_schedule.specs.declared.lines.EventKind.{EventKind}
-use Rattle.uz_search.specs.Following.{clock_on}
-use Rattle.uz_search.specs.Tests.{is_clear_at}
+use Rattle.uz_search.proofs.Common.{ℕ, Option, ap, ◌∙◌, EventKind, clock_on, is_clear_at}
 use Rattle.uz_search.proofs.stuck.is_clear_after.Goals as goal
 
 pub returns : goal.returns

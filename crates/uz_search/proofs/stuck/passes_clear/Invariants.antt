@@ -1,5 +1,4 @@
-use Rattle.std.proofs.Common.{◌≡◌}
-use Rattle.uz_search.specs.Tests.{is_clear_way}
+use Rattle.uz_search.proofs.Common.{◌≡◌, is_clear_way}
 use Rattle.uz_search.proofs.stuck.passes_clear.Given as goal
 
 abbrev pub invariant-each : goal.invariant-each

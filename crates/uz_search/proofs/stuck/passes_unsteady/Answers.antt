@@ -1,12 +1,5 @@
-use Rattle.std.proofs.Common.{◌≡◌, ◌≢◌, Bool, true, false, not, sym, ap, ◌∙◌, true≢false, refl}
-use Rattle.std.specs.Prelude.{IsTrue, ◌↔◌}
-use Rattle.uz_schedule.specs.declared.kinds.Kind.TheVariants.{Main}
-use Rattle.uz_schedule.specs.declared.states.Instance.{Instance}
-use Rattle.uz_rules.specs.declared.next.Next.{Next}
-use Rattle.uz_search.specs.declared.program.Program.{Program}
-use Rattle.uz_search.specs.Following.{most_clocks}
-use Rattle.uz_search.specs.Stuck.{PassesUnsteady}
-use Rattle.uz_search.specs.Tests.{is_clear_way}
+use Rattle.uz_search.proofs.Common.{◌≡◌, ◌≢◌, Bool, true, false, not, sym, ap, ◌∙◌, true≢false, refl, IsTrue, ◌↔◌, Main, Instance, Next}
+use Rattle.uz_search.proofs.Common.{Program, most_clocks, PassesUnsteady, is_clear_way}
 use Rattle.uz_search.proofs.ClearWay.{passes_from, passes_not}
 use Rattle.uz_search.proofs.stuck.passes_unsteady.Goals as goal
 

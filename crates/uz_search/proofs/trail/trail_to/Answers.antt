@@ -1,5 +1,4 @@
-use Rattle.std.proofs.Common.{◌<◌, subst, sym, ap, ◌∙◌, reverse, arith}
-use Rattle.uz_search.specs.Trails.{IsTrail}
+use Rattle.uz_search.proofs.Common.{◌<◌, subst, sym, ap, ◌∙◌, reverse, arith, IsTrail}
 use Rattle.uz_search.proofs.TrailLemmas.{read_more, read_all, ReadBack}
 use Rattle.uz_search.proofs.trail.trail_to.Goals as goal
 

@@ -1,7 +1,4 @@
-use Rattle.std.proofs.Common.{◌≡◌, ◌++◌}
-use Rattle.uz_search.specs.declared.program.Program.{Program}
-use Rattle.uz_search.specs.Following.{Flash}
-use Rattle.uz_search.specs.Visiting.{AddsAll, IsTree, ComeFrom}
+use Rattle.uz_search.proofs.Common.{◌≡◌, ◌++◌, Program, Flash, AddsAll, IsTree, ComeFrom}
 use Rattle.uz_search.proofs.visited.add_all.Given as goal
 
 abbrev pub invariant-each : goal.invariant-each

@@ -1,10 +1,5 @@
-use Rattle.std.proofs.Common.{◌≡◌, List, [], ap, ◌∙◌}
-use Rattle.uz_schedule.specs.declared.states.Instance.{Instance}
-use Rattle.uz_search.specs.declared.program.Program.{Program}
-use Rattle.uz_search.specs.declared.widening.Widening.{Widening}
-use Rattle.uz_search.specs.Loosened.{loosened}
-use Rattle.uz_search.specs.Widenings.{widened_all}
-use Rattle.uz_search.specs.Widened.{facts_at, facts_in, widened}
+use Rattle.uz_search.proofs.Common.{◌≡◌, List, [], ap, ◌∙◌, Instance, Program, Widening, loosened, widened_all, facts_at, widened}
+use Rattle.uz_search.specs.Widened.{facts_in}
 use Rattle.uz_search.proofs.widening.widen.Goals as goal
 
 widened_so : (program : Program) (x : Instance) (facts : List Widening) → facts ≡ facts_at program x.pc → widened_all facts (loosened x)

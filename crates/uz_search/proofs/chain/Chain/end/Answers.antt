@@ -1,8 +1,4 @@
-use Rattle.std.proofs.Common.{◌∙◌, List, ap, length, subst, sym}
-use Rattle.uz_schedule.specs.Ends.{Ends}
-use Rattle.uz_search.specs.declared.chain.Node.{Node}
-use Rattle.uz_search.specs.Chains.{IsChain, ranges_below}
-use Rattle.uz_search.specs.Places.{folded}
+use Rattle.uz_search.proofs.Common.{◌∙◌, List, ap, length, subst, sym, Ends, Node, IsChain, ranges_below, folded}
 use Rattle.uz_search.proofs.chain.Chain.end.Goals as goal
 
 pub end_of-requires : goal.end_of-requires

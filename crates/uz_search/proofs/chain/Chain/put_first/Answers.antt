@@ -1,6 +1,4 @@
-use Rattle.std.proofs.Common.{◌∙◌, ◌∷◌, List, ap, length, subst, sym}
-use Rattle.uz_search.specs.declared.chain.Node.{Node}
-use Rattle.uz_search.specs.Chains.{IsChain, IsNode, ranges_below}
+use Rattle.uz_search.proofs.Common.{◌∙◌, ◌∷◌, List, ap, length, subst, sym, Node, IsChain, IsNode, ranges_below}
 use Rattle.uz_search.proofs.ChainLemmas.{chain_more, view_more}
 use Rattle.uz_search.proofs.chain.Chain.put_first.Goals as goal
 

@@ -1,8 +1,5 @@
-use Rattle.std.proofs.Common.{◌∙◌, ◌≡◌, ◌+◌, ◌<◌, List, [], ap, slice_index_or, subst, ℕ}
-use Rattle.uz_schedule.specs.Ends.{Ends, whole_byte, whole_pair}
-use Rattle.uz_schedule.specs.declared.facts.Val.TheVariants.{Range}
-use Rattle.uz_search.specs.Widenings.{widened_all}
-use Rattle.uz_search.specs.Places.{folded, folded_value}
+use Rattle.uz_search.proofs.Common.{◌∙◌, ◌≡◌, ◌+◌, ◌<◌, List, [], ap, slice_index_or, subst, ℕ, Ends, whole_byte, whole_pair, Range}
+use Rattle.uz_search.proofs.Common.{widened_all, folded, folded_value}
 use Rattle.uz_search.proofs.PlaceLemmas.{by_places}
 use Rattle.uz_search.proofs.facts.Facts.widen.Goals as goal
 
