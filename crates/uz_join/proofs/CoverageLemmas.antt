@@ -1,13 +1,7 @@
 -- Points that say what instances say.
-use Rattle.std.proofs.Common.{◌≡◌, ◌∙◌, ap, sym, subst, arith, refl, ℕ, zero, suc, ◌+◌, ◌<◌, ◌≤◌, ◌++◌, List, [], ◌∷◌, length, map, get_or}
-use Rattle.std.proofs.Common.{◌≢◌, ⊎_elim}
-use Rattle.std.specs.Prelude.{Some, slice_get}
-use Rattle.std.proofs.lemmas.Bool.{cases_eq}
-use Rattle.uz_schedule.specs.Instances.{instance_of}
-use Rattle.uz_schedule.specs.declared.states.Instance.{Instance}
-use Rattle.uz_schedule.specs.declared.states.Point.{Point}
-use Rattle.uz_join.specs.Coverage.{AreSaid, AreSaidBack, IsOnLine, IsSaid, IsSaidBack, SaidAt}
-use Rattle.uz_join.specs.Coverage.{SaidBy, SaidPlace, SaysInstances}
+use Rattle.uz_join.proofs.Common.{◌≡◌, ◌∙◌, ap, sym, subst, arith, refl, ℕ, zero, suc, ◌+◌, ◌<◌, ◌≤◌, ◌++◌, List, [], ◌∷◌, length, map}
+use Rattle.uz_join.proofs.Common.{get_or, ◌≢◌, ⊎_elim, Some, slice_get, cases_eq, instance_of, Instance, Point, AreSaid, AreSaidBack}
+use Rattle.uz_join.proofs.Common.{IsOnLine, IsSaid, IsSaidBack, SaidAt, SaidBy, SaidPlace, SaysInstances}
 
 -- a list whose elements are made of another one's
 pub map_is : {A B : Type 0} (f : A → B) (xs : List A) (ys : List B) → length xs ≡ length ys

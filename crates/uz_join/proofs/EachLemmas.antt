@@ -1,8 +1,6 @@
 -- What holds of each element so far, and of one more.
-use Rattle.std.proofs.Common.{◌≡◌, ◌≢◌, ◌∙◌, sym, ap, refl, arith, ⊎_elim, ℕ, ◌+◌, ◌<◌, ◌≤◌, List, length, get_or, subst}
-use Rattle.std.specs.Prelude.{Some, slice_get}
-use Rattle.std.proofs.lemmas.Bool.{cases_eq}
-use Rattle.std.proofs.lemmas.Option.{slice_get_read, slice_get_within}
+use Rattle.uz_join.proofs.Common.{◌≡◌, ◌≢◌, ◌∙◌, sym, ap, refl, arith, ⊎_elim, ℕ, ◌+◌, ◌<◌, ◌≤◌, List, length, get_or, subst, Some}
+use Rattle.uz_join.proofs.Common.{slice_get, cases_eq, slice_get_read, slice_get_within}
 
 one_of : {A : Type 0} (a b : A) → Some a ≡ Some b → a ≡ b
 one_of a b e = cc

@@ -1,11 +1,8 @@
 -- Lists that compare equal by the derived `==` of their elements are one.
-use Rattle.std.proofs.Common.{◌≡◌, true, refl, sym, ap, List, true≢false}
-use Rattle.std.proofs.lemmas.Bool.{eqb-true}
-use lib.Pointwise.{pointwise}
+use Rattle.uz_join.proofs.Common.{◌≡◌, true, refl, sym, ap, List, true≢false, eqb-true, pointwise, PairFact}
 use Rattle.uz_schedule.specs.Exact.{exact_bit, exact_compared, exact_list, exact_wide, left, right}
 use Rattle.uz_schedule.specs.declared.facts.Bit.{Bit}
 use Rattle.uz_schedule.specs.declared.facts.Compared.{Compared}
-use Rattle.uz_schedule.specs.declared.facts.PairFact.{PairFact}
 use Rattle.uz_schedule.specs.declared.facts.PairFact.TheVariants.{Any, Between, Line, Loop}
 use Rattle.uz_schedule.specs.declared.ranges.Wide.{Wide}
 use Rattle.uz_schedule.specs.contracts.facts.BitPartialEq as bits

@@ -1,6 +1,5 @@
 -- A byte that grows by the same number from one line or count to the next.
-use Rattle.std.proofs.Common.{◌≡◌, ◌∙◌, ap, sym, arith, ℕ, ◌+◌, ◌-◌, ◌*◌, ◌%◌, ◌<◌}
-use Rattle.uz_schedule.specs.Ends.{Ends, one_number}
+use Rattle.uz_join.proofs.Common.{◌≡◌, ◌∙◌, ap, sym, arith, ℕ, ◌+◌, ◌-◌, ◌*◌, ◌%◌, ◌<◌, Ends, one_number}
 use Rattle.uz_schedule.specs.declared.facts.Fact.TheVariants.{Between}
 
 -- with what is left to a byte after x, x makes it

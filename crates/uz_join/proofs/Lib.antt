@@ -1,3 +1,4 @@
+pub mod Common
 pub mod PutLemmas
 pub mod EachLemmas
 pub mod EqualLists

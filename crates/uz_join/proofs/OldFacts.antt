@@ -1,7 +1,6 @@
 -- The facts of the interrupted registers.
-use Rattle.std.proofs.Common.{◌≡◌, ◌∙◌, sym, ap, arith, ℕ, zero, suc, ◌+◌, ◌∷◌, [], ◌++◌}
+use Rattle.uz_join.proofs.Common.{◌≡◌, ◌∙◌, sym, ap, arith, ℕ, zero, suc, ◌+◌, ◌∷◌, [], ◌++◌, old_facts}
 use Rattle.uz_schedule.specs.declared.facts.Fact.TheVariants.{Old}
-use Rattle.uz_join.specs.Points.{old_facts}
 
 -- one more interrupted register
 pub old_facts_more : (k n : ℕ) → old_facts k (n + 1) ≡ old_facts k n ++ Old (k + n) ∷ []

@@ -1,17 +1,11 @@
 -- Points that are put behind others.
-use Rattle.std.proofs.Common.{◌≡◌, ◌∙◌, ◌≢◌, refl, sym, ap, subst, arith, inl, inr, ⊎_elim, ℕ, zero, suc, ◌+◌, ◌<◌, ◌≤◌, List, [], ◌∷◌, ◌++◌, length}
-use Rattle.std.proofs.Common.{drop, reverse}
-use Rattle.std.specs.Prelude.{None, Some, slice_get, ◌⊎◌}
-use Rattle.std.proofs.lemmas.Bool.{cases_eq}
-use Rattle.std.proofs.lemmas.List.{append-nil, reverse-append, reverse-reverse}
-use Rattle.std.proofs.lemmas.Option.{slice_get_within}
-use Rattle.uz_schedule.specs.declared.states.Point.{Point}
-use Rattle.uz_join.specs.Same.{AreTold, IsWhollyTold, SameInstances}
+use Rattle.uz_join.proofs.Common.{◌≡◌, ◌∙◌, ◌≢◌, refl, sym, ap, subst, arith, inl, inr, ⊎_elim, ℕ, zero, suc, ◌+◌, ◌<◌, ◌≤◌, List, [], ◌∷◌}
+use Rattle.uz_join.proofs.Common.{◌++◌, length, drop, reverse, None, Some, slice_get, ◌⊎◌, cases_eq, append-nil, reverse-append}
+use Rattle.uz_join.proofs.Common.{reverse-reverse, slice_get_within, Point, AreTold, IsWhollyTold, SameInstances, AreSoFar, IsPut}
 use Rattle.uz_join.proofs.SameFacts.{wholly_itself}
 use Rattle.uz_join.proofs.TakenLemmas.{next_taken, none_dropped}
 use Rattle.uz_join.proofs.CoverageLemmas.{front, last_of}
 use Rattle.uz_join.specs.declared.replacing.Replacing.{Replacing}
-use Rattle.uz_join.specs.Replacing.{AreSoFar, IsPut}
 
 -- One point
 

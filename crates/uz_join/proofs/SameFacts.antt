@@ -1,20 +1,12 @@
 -- Points whose facts say the same have the same instance.
-use Rattle.std.proofs.Common.{◌≡◌, ◌∙◌, ap, sym, arith, refl, ℕ, suc, ◌+◌, ◌<◌, ◌≤◌, List, [], ◌∷◌, length, map, get_or, if◌then◌else◌}
-use Rattle.std.proofs.Common.{true, false, leb, Bool, ◌&&◌}
-use Rattle.std.specs.Prelude.{Some, None, option_and_then, slice_get}
-use Rattle.std.proofs.lemmas.Bool.{le-leb, leb-true}
-use lib.Pointwise.{pointwise}
+use Rattle.uz_join.proofs.Common.{◌≡◌, ◌∙◌, ap, sym, arith, refl, ℕ, suc, ◌+◌, ◌<◌, ◌≤◌, List, [], ◌∷◌, length, map, get_or, if◌then◌else◌}
+use Rattle.uz_join.proofs.Common.{true, false, leb, Bool, ◌&&◌, Some, None, option_and_then, slice_get, le-leb, leb-true, pointwise}
+use Rattle.uz_join.proofs.Common.{cell_span, clock_below, instance_of, is_in_box, pairs_of, span_of_val, val_of, Fact, PairFact, Val}
+use Rattle.uz_join.proofs.Common.{Instance, Point, AreTold, IsWhollyTold, SameAt, SameInstances, SamePlace}
+use Rattle.uz_schedule.specs.Schedule.{length_of, level_at, start_of}
+use Rattle.uz_join.proofs.EqualLists.{equal_facts}
 use Rattle.uz_schedule.specs.Exact as exact
 use Rattle.uz_schedule.specs.contracts.facts.PairFactPartialEq as facts
-use Rattle.uz_schedule.specs.Instances.{cell_span, clock_below, instance_of, is_in_box, pairs_of, span_of_val, val_of}
-use Rattle.uz_schedule.specs.Schedule.{length_of, level_at, start_of}
-use Rattle.uz_schedule.specs.declared.facts.Fact.{Fact}
-use Rattle.uz_schedule.specs.declared.facts.PairFact.{PairFact}
-use Rattle.uz_schedule.specs.declared.facts.Val.{Val}
-use Rattle.uz_schedule.specs.declared.states.Instance.{Instance}
-use Rattle.uz_schedule.specs.declared.states.Point.{Point}
-use Rattle.uz_join.proofs.EqualLists.{equal_facts}
-use Rattle.uz_join.specs.Same.{AreTold, IsWhollyTold, SameAt, SameInstances, SamePlace}
 
 -- lists whose elements are made the same are made the same
 pub map_same : {A B : Type 0} (f g : A → B) (xs ys : List A) → length xs ≡ length ys

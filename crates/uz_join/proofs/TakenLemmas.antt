@@ -1,7 +1,6 @@
 -- The elements of a list in their order, taken one by one from the end of its reverse.
-use Rattle.std.proofs.Common.{◌≡◌, ◌∙◌, sym, ap, arith, ℕ, zero, suc, ◌+◌, ◌≤◌, List, [], ◌∷◌, ◌++◌, length, drop, reverse}
-use Rattle.std.specs.Prelude.{Some, slice_get}
-use Rattle.std.proofs.lemmas.List.{reverse-append}
+use Rattle.uz_join.proofs.Common.{◌≡◌, ◌∙◌, sym, ap, arith, ℕ, zero, suc, ◌+◌, ◌≤◌, List, [], ◌∷◌, ◌++◌, length, drop, reverse, Some}
+use Rattle.uz_join.proofs.Common.{slice_get, reverse-append}
 
 dropped : {A : Type 0} (xs : List A) (i : ℕ) (x : A) (rest : List A) → x ∷ rest ≡ drop i xs → (slice_get xs i ≡ Some x)
     × (rest ≡ drop (suc i) xs)

@@ -4,16 +4,21 @@ use crate::chains::Chains;
 use crate::copies::copy_of;
 use crate::source::Source;
 use crate::successors::with_numbers;
-use crate::{Axis, fact_along};
+use crate::{Dimension, fact_along};
 use arrayvec::ArrayVec;
 use std::alloc::{AllocError, Global};
 use uz_schedule::{Fact, Point};
 
 /// What is known of each register all along a box.
-fn registers(axis: Axis, first: &[Fact; 32], second: &[Fact; 32], start: u16) -> [Fact; 32] {
+fn registers(
+    dimension: Dimension,
+    first: &[Fact; 32],
+    second: &[Fact; 32],
+    start: u16,
+) -> [Fact; 32] {
     let mut facts = [Fact::Any; 32];
     for r in 0..32usize {
-        facts[r] = fact_along(axis, &first[r], &second[r], start);
+        facts[r] = fact_along(dimension, &first[r], &second[r], start);
     }
     facts
 }
@@ -28,7 +33,7 @@ fn fact_at(facts: &[Fact], i: usize) -> Fact {
 
 /// What is known of each byte of the stack, or of each cell.
 fn facts<const CAP: usize>(
-    axis: Axis,
+    dimension: Dimension,
     first: &[Fact],
     second: &[Fact],
     start: u16,
@@ -36,48 +41,58 @@ fn facts<const CAP: usize>(
     let mut facts = ArrayVec::new();
     for i in 0..first.len() {
         let _full = facts
-            .try_push(fact_along(axis, &first[i], &fact_at(second, i), start))
+            .try_push(fact_along(dimension, &first[i], &fact_at(second, i), start))
             .is_err();
     }
     facts
 }
 
 /// The last count of the box of so many points: one for each, where they go on by counts.
-fn last_count(axis: Axis, count: usize, first: &Point) -> u8 {
-    match axis {
-        Axis::Lines => first.c1,
-        Axis::Counts if count < 2 => first.c1,
-        Axis::Counts => u8::try_from(count - 1).unwrap_or(255),
+fn last_count(dimension: Dimension, count: usize, first: &Point) -> u8 {
+    match dimension {
+        Dimension::Lines => first.c1,
+        Dimension::Counts if count < 2 => first.c1,
+        Dimension::Counts => u8::try_from(count - 1).unwrap_or(255),
     }
 }
 
 /// The clocks from one count of the box of so many points to the next.
-fn slope(axis: Axis, count: usize, first: &Point, second: &Point) -> i16 {
-    match axis {
-        Axis::Lines => first.slope,
-        Axis::Counts if count < 2 => first.slope,
-        Axis::Counts => i16::try_from(second.clock.saturating_sub(first.clock)).unwrap_or(0),
+fn slope(dimension: Dimension, count: usize, first: &Point, second: &Point) -> i16 {
+    match dimension {
+        Dimension::Lines => first.slope,
+        Dimension::Counts if count < 2 => first.slope,
+        Dimension::Counts => i16::try_from(second.clock.saturating_sub(first.clock)).unwrap_or(0),
     }
 }
 
 /// The box of so many points up to a line, of which these are the first and the second one.
 fn box_between(
-    axis: Axis,
+    dimension: Dimension,
     count: usize,
     first: &Point,
     second: &Point,
     line: u16,
     next: ArrayVec<u32, 16>,
 ) -> Point {
-    let start = axis.start(first);
+    let start = dimension.start(first);
     Point {
         l1: line,
-        c1: last_count(axis, count, first),
-        slope: slope(axis, count, first, second),
-        regs: registers(axis, &first.regs, &second.regs, start),
+        c1: last_count(dimension, count, first),
+        slope: slope(dimension, count, first, second),
+        regs: registers(dimension, &first.regs, &second.regs, start),
         pairs: copy_of(&first.pairs),
-        stack: facts(axis, first.stack.as_slice(), second.stack.as_slice(), start),
-        cells: facts(axis, first.cells.as_slice(), second.cells.as_slice(), start),
+        stack: facts(
+            dimension,
+            first.stack.as_slice(),
+            second.stack.as_slice(),
+            start,
+        ),
+        cells: facts(
+            dimension,
+            first.cells.as_slice(),
+            second.cells.as_slice(),
+            start,
+        ),
         next,
         ..*first
     }
@@ -111,7 +126,7 @@ fn last_line(source: &Source, ids: &[u32]) -> Option<u16> {
 
 /// The box of a chain of these points up to a line, of which this is the first one.
 fn box_from(
-    axis: Axis,
+    dimension: Dimension,
     source: &Source,
     ids: &[u32],
     numbers: &[u32],
@@ -120,7 +135,7 @@ fn box_from(
 ) -> Option<Point> {
     match point_at(source, ids, usize::from(ids.len() > 1)) {
         Some(second) => Some(box_between(
-            axis,
+            dimension,
             ids.len(),
             first,
             &second,
@@ -132,10 +147,15 @@ fn box_from(
 }
 
 /// The box of a chain of these points, which leads to points of these numbers. None where they aren't there.
-pub(crate) fn box_of(axis: Axis, source: &Source, ids: &[u32], numbers: &[u32]) -> Option<Point> {
+pub(crate) fn box_of(
+    dimension: Dimension,
+    source: &Source,
+    ids: &[u32],
+    numbers: &[u32],
+) -> Option<Point> {
     let line = last_line(source, ids)?;
     match point_at(source, ids, 0) {
-        Some(first) => box_from(axis, source, ids, numbers, &first, line),
+        Some(first) => box_from(dimension, source, ids, numbers, &first, line),
         None => None,
     }
 }
@@ -143,7 +163,7 @@ pub(crate) fn box_of(axis: Axis, source: &Source, ids: &[u32], numbers: &[u32]) 
 /// The boxes of chains, where each point is in one.
 pub(crate) fn chain_points(
     alloc: Global,
-    axis: Axis,
+    dimension: Dimension,
     source: &Source,
     chains: &Chains,
 ) -> Result<Vec<Point>, AllocError> {
@@ -152,7 +172,7 @@ pub(crate) fn chain_points(
     joined.reserve_exact(chains.count() as usize)?;
     for number in 0..chains.count() {
         chains.put_points(number, &mut ids)?;
-        if let Some(point) = box_of(axis, source, ids.as_slice(), chains.numbers()) {
+        if let Some(point) = box_of(dimension, source, ids.as_slice(), chains.numbers()) {
             joined.push(point)?;
         }
     }

@@ -8,7 +8,7 @@ ghost use Rattle.uz_join.specs.Unjoined.{IsUnjoined};
 ghost use Rattle.uz_join.specs.Same.{SameInstances};
 
 use crate::copies::{entry_of, rests_of};
-use crate::joining::joined_both;
+use crate::joining::join_both;
 use std::alloc::{AllocError, Global};
 use std::mem::replace;
 use uz_check::verdict;
@@ -51,7 +51,7 @@ fn join(alloc: Global, cert: &mut Cert) -> Result<bool, AllocError>
     ensures stays { result ≡ OkOf false → cert.new ≡ cert.old }
 {
     let points = replace(&mut cert.points, Sequence::new(alloc));
-    let joined = joined_both(alloc, points.into_vec())?;
+    let joined = join_both(alloc, points.into_vec())?;
     cert.points = Sequence::from_vec(joined.points);
     match joined.numbers {
         Some(numbers) => {

@@ -16,7 +16,7 @@ pub(crate) fn copy_of<T: Copy>(value: &T) -> T
 }
 
 /// A copy of ranges of cells, or of slots.
-fn copied_spans<const CAP: usize>(from: &[Span]) -> ArrayVec<Span, CAP>
+fn copy_spans<const CAP: usize>(from: &[Span]) -> ArrayVec<Span, CAP>
     requires { length from.now ≤ CAP }
     ensures { result.items ≡ from.now }
 {
@@ -33,7 +33,7 @@ fn with_vector(rest: &Rest, vector: u32) -> Rest
         line: rest.line,
         clock: rest.clock,
         vector,
-        cells: copied_spans(rest.cells.as_slice()),
+        cells: copy_spans(rest.cells.as_slice()),
     }
 }
 
@@ -64,25 +64,25 @@ pub fn entry_of(entry: &Entry, numbers: &[u32]) -> Entry
         clock: entry.clock,
         regs: copy_of(&entry.regs),
         flags: entry.flags,
-        stack: copied_spans(entry.stack.as_slice()),
-        cells: copied_spans(entry.cells.as_slice()),
+        stack: copy_spans(entry.stack.as_slice()),
+        cells: copy_spans(entry.cells.as_slice()),
     }
 }
 
 /// A copy of facts of the stack, or of cells.
-fn copied_facts<const CAP: usize>(from: &[Fact]) -> ArrayVec<Fact, CAP> {
+fn copy_facts<const CAP: usize>(from: &[Fact]) -> ArrayVec<Fact, CAP> {
     let mut copy = ArrayVec::new();
     let _full = copy.try_extend_from_slice(from).is_err();
     copy
 }
 
 /// A copy of a point without successors.
-pub(crate) fn copied_point(from: &Point) -> Point {
+pub(crate) fn copy_point(from: &Point) -> Point {
     Point {
         regs: copy_of(&from.regs),
         pairs: copy_of(&from.pairs),
-        stack: copied_facts(from.stack.as_slice()),
-        cells: copied_facts(from.cells.as_slice()),
+        stack: copy_facts(from.stack.as_slice()),
+        cells: copy_facts(from.cells.as_slice()),
         next: ArrayVec::new(),
         ..*from
     }

@@ -1,4 +1,4 @@
-//! Facts of points that follow each other along an axis.
+//! Facts of points that follow each other along a dimension.
 
 ghost use Rattle.std.specs.Prelude.{◌≡◌, ◌+◌, ◌*◌, ◌%◌, ℕ, IfSome, Some};
 ghost use Rattle.uz_schedule.specs.Ends.{one_number};
@@ -6,7 +6,7 @@ ghost use Rattle.uz_schedule.specs.declared.facts.Fact.TheVariants.{Between};
 ghost use Rattle.uz_schedule.specs.declared.facts.Val.TheVariants.{Range};
 ghost use Rattle.uz_join.specs.Along.{val_along};
 
-use crate::axis::Axis;
+use crate::dimension::Dimension;
 use uz_schedule::{Fact, PairFact, Span, Val};
 
 /// The byte that a fact tells, where it tells one.
@@ -21,43 +21,43 @@ fn single(fact: &Fact) -> Option<u8>
     }
 }
 
-/// Whether a fact says the same all along an axis.
-fn is_steady(fact: &Fact, axis: Axis) -> bool {
-    match axis {
-        Axis::Lines => !matches!(fact, Fact::Line(_, _)),
-        Axis::Counts => !matches!(fact, Fact::Loop(_, _)),
+/// Whether a fact says the same all along a dimension.
+fn is_steady(fact: &Fact, dimension: Dimension) -> bool {
+    match dimension {
+        Dimension::Lines => !matches!(fact, Fact::Line(_, _)),
+        Dimension::Counts => !matches!(fact, Fact::Loop(_, _)),
     }
 }
 
-/// Whether each of these facts says the same all along an axis.
-pub(crate) fn are_steady(facts: &[Fact], axis: Axis) -> bool {
+/// Whether each of these facts says the same all along a dimension.
+pub(crate) fn are_steady(facts: &[Fact], dimension: Dimension) -> bool {
     for fact in facts {
-        if !is_steady(fact, axis) {
+        if !is_steady(fact, dimension) {
             return false;
         }
     }
     true
 }
 
-/// Whether a pair's fact says the same all along an axis.
-pub(crate) fn is_pair_steady(fact: &PairFact, axis: Axis) -> bool {
-    match axis {
-        Axis::Lines => !matches!(fact, PairFact::Line(_, _)),
-        Axis::Counts => !matches!(fact, PairFact::Loop(_, _)),
+/// Whether a pair's fact says the same all along a dimension.
+pub(crate) fn is_pair_steady(fact: &PairFact, dimension: Dimension) -> bool {
+    match dimension {
+        Dimension::Lines => !matches!(fact, PairFact::Line(_, _)),
+        Dimension::Counts => !matches!(fact, PairFact::Loop(_, _)),
     }
 }
 
 /// What is known of a byte.
-pub trait Told: PartialEq {
+pub trait KnownByte: PartialEq {
     /// The byte, where one is told.
-    fn told(&self) -> Option<u8>;
+    fn byte(&self) -> Option<u8>;
 
     /// A number for what is known, the same for all that tell one byte.
     fn code(&self) -> u64;
 }
 
-impl Told for Fact {
-    fn told(&self) -> Option<u8> {
+impl KnownByte for Fact {
+    fn byte(&self) -> Option<u8> {
         single(self)
     }
 
@@ -73,8 +73,8 @@ impl Told for Fact {
     }
 }
 
-impl Told for Span {
-    fn told(&self) -> Option<u8> {
+impl KnownByte for Span {
+    fn byte(&self) -> Option<u8> {
         if self.lo() == self.hi() {
             Some(self.lo())
         } else {
@@ -91,10 +91,10 @@ impl Told for Span {
     }
 }
 
-impl Told for Val {
-    fn told(&self) -> Option<u8> {
+impl KnownByte for Val {
+    fn byte(&self) -> Option<u8> {
         match self {
-            Val::Range(span) => span.told(),
+            Val::Range(span) => span.byte(),
             Val::Old(_) | Val::OldFlags => None,
         }
     }
@@ -109,15 +109,15 @@ impl Told for Val {
 }
 
 /// Whether two facts are the same but for the byte that they tell.
-fn same_but_byte<T: Told>(a: &T, b: &T) -> bool {
-    match (a.told(), b.told()) {
+fn same_but_byte<T: KnownByte>(a: &T, b: &T) -> bool {
+    match (a.byte(), b.byte()) {
         (Some(_), Some(_)) => true,
         _ => a == b,
     }
 }
 
 /// Whether two lists of facts are the same but for the bytes that they tell.
-pub(crate) fn same_but_bytes<T: Told>(a: &[T], b: &[T]) -> bool {
+pub(crate) fn same_but_bytes<T: KnownByte>(a: &[T], b: &[T]) -> bool {
     if a.len() != b.len() {
         return false;
     }
@@ -130,15 +130,15 @@ pub(crate) fn same_but_bytes<T: Told>(a: &[T], b: &[T]) -> bool {
 }
 
 /// By how much the byte of a fact grows to that of another, modulo 256: 0 where one of them tells none.
-fn growth<T: Told>(from: &T, to: &T) -> u8 {
-    match (from.told(), to.told()) {
+fn growth<T: KnownByte>(from: &T, to: &T) -> u8 {
+    match (from.byte(), to.byte()) {
         (Some(from), Some(to)) => to.wrapping_sub(from),
         _ => 0,
     }
 }
 
 /// Writes by how much each byte grows from some facts to others.
-pub(crate) fn put_growths<T: Told>(growths: &mut [u8], from: &[T], to: &[T]) {
+pub(crate) fn put_growths<T: KnownByte>(growths: &mut [u8], from: &[T], to: &[T]) {
     for i in 0..growths.len() {
         growths[i] = match (from.get(i), to.get(i)) {
             (Some(from), Some(to)) => growth(from, to),
@@ -148,15 +148,15 @@ pub(crate) fn put_growths<T: Told>(growths: &mut [u8], from: &[T], to: &[T]) {
 }
 
 /// Whether a fact follows another with this growth of its byte.
-fn follows<T: Told>(by: u8, last: &T, new: &T) -> bool {
-    match (last.told(), new.told()) {
+fn follows<T: KnownByte>(by: u8, last: &T, new: &T) -> bool {
+    match (last.byte(), new.byte()) {
         (Some(from), Some(to)) => to.wrapping_sub(from) == by,
         _ => by == 0 && last == new,
     }
 }
 
 /// Whether facts follow others with these growths of their bytes.
-pub(crate) fn follow_by<T: Told>(growths: &[u8], last: &[T], new: &[T]) -> bool {
+pub(crate) fn follow_by<T: KnownByte>(growths: &[u8], last: &[T], new: &[T]) -> bool {
     if last.len() != new.len() {
         return false;
     }
@@ -173,7 +173,7 @@ pub(crate) fn follow_by<T: Told>(growths: &[u8], last: &[T], new: &[T]) -> bool 
 }
 
 /// How many bytes differ.
-pub(crate) fn differences<T: Told>(a: &[T], b: &[T]) -> u32 {
+pub(crate) fn differences<T: KnownByte>(a: &[T], b: &[T]) -> u32 {
     let mut count: u32 = 0;
     for i in 0..a.len() {
         if let Some(other) = b.get(i) {
@@ -204,25 +204,25 @@ fn step(from: u8, to: u8) -> u8
 
 /// The fact of a byte that is this one at a line or count, and grows by `factor` to the next.
 #[tactic(auto, using(crate::proofs::GrowthLemmas::next_makes))]
-fn moving(axis: Axis, factor: u8, n: u16, byte: u8) -> Fact
-    ensures here { (m : ℕ) → val_along axis n m result ≡ Range (one_number byte) }
-    ensures next { (m : ℕ) → val_along axis (n + 1) m result ≡ Range (one_number ((byte + factor) % 256)) }
+fn moving_fact(dimension: Dimension, factor: u8, n: u16, byte: u8) -> Fact
+    ensures here { (m : ℕ) → val_along dimension n m result ≡ Range (one_number byte) }
+    ensures next { (m : ℕ) → val_along dimension (n + 1) m result ≡ Range (one_number ((byte + factor) % 256)) }
 {
     let offset = offset_for(factor, n, byte);
-    match axis {
-        Axis::Lines => Fact::Line(factor, offset),
-        Axis::Counts => Fact::Loop(factor, offset),
+    match dimension {
+        Dimension::Lines => Fact::Line(factor, offset),
+        Dimension::Counts => Fact::Loop(factor, offset),
     }
 }
 
 /// What is known all along a box that begins at the line or count `start`, where `first` is known there and `second` at the one after it.
-pub fn fact_along(axis: Axis, first: &Fact, second: &Fact, start: u16) -> Fact
-    ensures first { (m : ℕ) → val_along axis start m result ≡ val_along axis start m first.now }
+pub fn fact_along(dimension: Dimension, first: &Fact, second: &Fact, start: u16) -> Fact
+    ensures first { (m : ℕ) → val_along dimension start m result ≡ val_along dimension start m first.now }
     ensures second { (a b m : ℕ) → first.now ≡ Between (one_number a) → second.now ≡ Between (one_number b) →
-        val_along axis (start + 1) m result ≡ Range (one_number b) }
+        val_along dimension (start + 1) m result ≡ Range (one_number b) }
 {
     match (single(first), single(second)) {
-        (Some(from), Some(to)) if from != to => moving(axis, step(from, to), start, from),
+        (Some(from), Some(to)) if from != to => moving_fact(dimension, step(from, to), start, from),
         _ => *first,
     }
 }

@@ -3,7 +3,7 @@
 use crate::chains::Chains;
 use crate::source::{Source, is_node_joinable};
 use crate::{
-    Axis, Growth, NONE, Shaped, distance, goes_on, is_joinable, key, node_key, number_of,
+    Dimension, Growth, NONE, Shaped, distance, goes_on, is_joinable, key, node_key, number_of,
     same_shape,
 };
 use std::alloc::{AllocError, Global};
@@ -71,13 +71,14 @@ fn open_with<'a, P: Shaped>(id: u32, first: &'a P) -> Open<'a, P> {
 }
 
 /// From the last point of an open chain to a point: how many lines or clocks.
-fn step_to<P: Shaped>(axis: Axis, open: &Open<'_, P>, new: &P) -> u16 {
-    new.place(axis).wrapping_sub(open.last.place(axis))
+fn step_to<P: Shaped>(dimension: Dimension, open: &Open<'_, P>, new: &P) -> u16 {
+    new.place(dimension)
+        .wrapping_sub(open.last.place(dimension))
 }
 
 /// An open chain goes on with a point: a chain begins where this is the second one.
 fn go_on<'a, P: Shaped>(
-    axis: Axis,
+    dimension: Dimension,
     chains: &mut Chains,
     open: &mut Open<'a, P>,
     id: u32,
@@ -85,7 +86,7 @@ fn go_on<'a, P: Shaped>(
 ) -> Result<(), AllocError> {
     if open.count == 1 {
         open.number = chains.begin(open.id)?;
-        open.step = step_to(axis, open, new);
+        open.step = step_to(dimension, open, new);
         open.growth = Growth::between(open.last, new);
     }
     chains.go_on(open.number, open.id, id);
@@ -96,18 +97,18 @@ fn go_on<'a, P: Shaped>(
 }
 
 /// How a point fits an open chain: with two points or more it goes on at the same distance, and each byte by the same growth.
-fn fit_to<P: Shaped>(axis: Axis, open: &Open<'_, P>, new: &P) -> Fit {
+fn fit_to<P: Shaped>(dimension: Dimension, open: &Open<'_, P>, new: &P) -> Fit {
     if open.count > 1 {
-        if axis.has_room(open.count)
-            && step_to(axis, open, new) == open.step
-            && goes_on(axis, &open.growth, open.last, new)
+        if dimension.has_room(open.count)
+            && step_to(dimension, open, new) == open.step
+            && goes_on(dimension, &open.growth, open.last, new)
         {
             Fit::GoesOn
         } else {
             Fit::No
         }
-    } else if axis.may_follow(open.last.place(axis), new.place(axis))
-        && same_shape(axis, open.last, new)
+    } else if dimension.may_follow(open.last.place(dimension), new.place(dimension))
+        && same_shape(dimension, open.last, new)
     {
         Fit::Second(distance(open.last, new))
     } else {
@@ -125,7 +126,7 @@ fn better(best: Option<(u32, usize)>, change: u32, at: usize) -> Option<(u32, us
 
 /// The place of the open chain from which a point goes on: the latest that it fits by its growth, and else the chain of one point
 /// from which the fewest bytes change.
-fn place_of<P: Shaped>(axis: Axis, open: &[Open<'_, P>], new: &P) -> Option<usize> {
+fn place_of<P: Shaped>(dimension: Dimension, open: &[Open<'_, P>], new: &P) -> Option<usize> {
     let mut best: Option<(u32, usize)> = None;
     let tried = if open.len() < TRIED {
         open.len()
@@ -134,7 +135,7 @@ fn place_of<P: Shaped>(axis: Axis, open: &[Open<'_, P>], new: &P) -> Option<usiz
     };
     for back in 0..tried {
         let at = open.len() - 1 - back;
-        match fit_to(axis, &open[at], new) {
+        match fit_to(dimension, &open[at], new) {
             Fit::GoesOn => return Some(at),
             Fit::Second(change) => best = better(best, change, at),
             Fit::No => {}
@@ -164,17 +165,17 @@ fn let_go<T: Drop>(open: &mut Vec<T>) {
 
 /// A point goes on from an open chain, or may begin one.
 fn add<'a, P: Shaped>(
-    axis: Axis,
+    dimension: Dimension,
     chains: &mut Chains,
     open: &mut Vec<Open<'a, P>>,
     id: u32,
     new: &'a P,
 ) -> Result<(), AllocError> {
-    match place_of(axis, open.as_slice(), new) {
+    match place_of(dimension, open.as_slice(), new) {
         Some(at) => {
             put_last(open, at);
             match open.last_mut() {
-                Some(chain) => go_on(axis, chains, chain, id, new),
+                Some(chain) => go_on(dimension, chains, chain, id, new),
                 None => Ok(()),
             }
         }
@@ -191,7 +192,7 @@ fn add<'a, P: Shaped>(
 /// Chains of points, which are looked at in the order of these candidates; their numbers begin with this one.
 fn chain<P: Shaped>(
     alloc: Global,
-    axis: Axis,
+    dimension: Dimension,
     points: &[P],
     first: u32,
     candidates: &[u64],
@@ -206,19 +207,23 @@ fn chain<P: Shaped>(
         }
         let id = id_of(*candidate);
         if let Some(new) = points.get(id.wrapping_sub(first) as usize) {
-            add(axis, chains, &mut open, id, new)?;
+            add(dimension, chains, &mut open, id, new)?;
         }
     }
     Ok(())
 }
 
-/// The points that are made and may be joined along an axis: those of one shape beside each other, in the order of their places.
-fn made_candidates(alloc: Global, axis: Axis, source: &Source) -> Result<Vec<u64>, AllocError> {
+/// The points that are made and may be joined along a dimension: those of one shape beside each other, in the order of their places.
+fn made_candidates(
+    alloc: Global,
+    dimension: Dimension,
+    source: &Source,
+) -> Result<Vec<u64>, AllocError> {
     let mut candidates = Vec::new(alloc);
     for (i, point) in source.made.iter().enumerate() {
         let id = number_of(i);
-        if is_joinable(point, axis) && id < NUMBERS {
-            candidates.push(candidate(key(axis, point), point.place(axis), id))?;
+        if is_joinable(point, dimension) && id < NUMBERS {
+            candidates.push(candidate(key(dimension, point), point.place(dimension), id))?;
         }
     }
     candidates.as_mut_slice().sort_unstable();
@@ -238,17 +243,28 @@ fn node_candidates(alloc: Global, source: &Source) -> Result<Vec<u64>, AllocErro
     Ok(candidates)
 }
 
-/// The chains of points along an axis, each of two points or more. A point that may not be joined is in none.
-pub(crate) fn chains_of(alloc: Global, axis: Axis, source: &Source) -> Result<Chains, AllocError> {
+/// The chains of points along a dimension, each of two points or more. A point that may not be joined is in none.
+pub(crate) fn chains_of(
+    alloc: Global,
+    dimension: Dimension,
+    source: &Source,
+) -> Result<Chains, AllocError> {
     let mut chains = Chains::new(alloc, source.count())?;
-    let made = made_candidates(alloc, axis, source)?;
-    chain(alloc, axis, source.made, 0, made.as_slice(), &mut chains)?;
-    if axis == Axis::Lines {
+    let made = made_candidates(alloc, dimension, source)?;
+    chain(
+        alloc,
+        dimension,
+        source.made,
+        0,
+        made.as_slice(),
+        &mut chains,
+    )?;
+    if dimension == Dimension::Lines {
         let nodes = node_candidates(alloc, source)?;
         let first = source.own_number(0);
         chain(
             alloc,
-            axis,
+            dimension,
             source.nodes,
             first,
             nodes.as_slice(),

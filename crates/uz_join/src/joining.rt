@@ -5,17 +5,21 @@ ghost use Rattle.uz_join.specs.Same.{SameInstances};
 
 use crate::chains::Chains;
 use crate::finding::chains_of;
-use crate::replacing::{Joined, replaced};
+use crate::replacing::{Joined, replace_chains};
 use crate::source::Source;
 use crate::successors::{Numbering, cut_to_successors};
-use crate::{Axis, number_at};
+use crate::{Dimension, number_at};
 use std::alloc::{AllocError, Global};
 use uz_schedule::Point;
 
-/// The chains of points along an axis, each of which leads to at most 16 others. None where there are none, or they were cut too often.
-fn chains_along(alloc: Global, axis: Axis, points: &[Point]) -> Result<Option<Chains>, AllocError> {
+/// The chains of points along a dimension, each of which leads to at most 16 others. None where there are none, or they were cut too often.
+fn chains_along(
+    alloc: Global,
+    dimension: Dimension,
+    points: &[Point],
+) -> Result<Option<Chains>, AllocError> {
     let source = Source::of_points(points);
-    let mut chains = chains_of(alloc, axis, &source)?;
+    let mut chains = chains_of(alloc, dimension, &source)?;
     if chains.count() == 0 {
         return Ok(None);
     }
@@ -26,17 +30,17 @@ fn chains_along(alloc: Global, axis: Axis, points: &[Point]) -> Result<Option<Ch
     }
 }
 
-/// Points joined along an axis: they say what the points say, and nothing else. Each point is let go when a joined one stands for it.
-pub(crate) fn joined_along(
+/// Points joined along a dimension: they say what the points say, and nothing else. Each point is let go when a joined one stands for it.
+pub(crate) fn join_along(
     alloc: Global,
-    axis: Axis,
+    dimension: Dimension,
     points: Vec<Point>,
 ) -> Result<Joined, AllocError>
     ensures same { IfOk result (λ j. SameInstances points.items j.points.items) }
     ensures stay { IfOk result (λ j. j.numbers ≡ NoneOf → j.points.items ≡ points.items) }
 {
-    match chains_along(alloc, axis, points.as_slice())? {
-        Some(chains) => replaced(alloc, axis, points, chains),
+    match chains_along(alloc, dimension, points.as_slice())? {
+        Some(chains) => replace_chains(alloc, dimension, points, chains),
         None => Ok(Joined {
             points,
             numbers: None,
@@ -65,12 +69,12 @@ fn numbers_through(lines: Option<Vec<u32>>, counts: Option<Vec<u32>>) -> Option<
 }
 
 /// Points joined line by line, and then count by count: they say what the points say, and nothing else.
-pub(crate) fn joined_both(alloc: Global, points: Vec<Point>) -> Result<Joined, AllocError>
+pub(crate) fn join_both(alloc: Global, points: Vec<Point>) -> Result<Joined, AllocError>
     ensures same { IfOk result (λ j. SameInstances points.items j.points.items) }
     ensures stay { IfOk result (λ j. j.numbers ≡ NoneOf → j.points.items ≡ points.items) }
 {
-    let lines = joined_along(alloc, Axis::Lines, points)?;
-    let counts = joined_along(alloc, Axis::Counts, lines.points)?;
+    let lines = join_along(alloc, Dimension::Lines, points)?;
+    let counts = join_along(alloc, Dimension::Counts, lines.points)?;
     Ok(Joined {
         points: counts.points,
         numbers: numbers_through(lines.numbers, counts.numbers),

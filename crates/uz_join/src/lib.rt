@@ -3,13 +3,13 @@
 //! only believed where the check accepts it.
 #![tactic(auto)]
 
-mod axis;
 mod boxes;
 mod chains;
 mod choice;
 mod comparing;
 mod copies;
 mod coverage;
+mod dimension;
 mod facts;
 mod facts_at;
 mod finding;
@@ -23,11 +23,11 @@ mod shape;
 mod source;
 mod successors;
 
-pub use axis::Axis;
 pub use choice::{Unjoined, joined, passes};
 pub use copies::{entry_of, rests_of};
 pub use coverage::say_instances;
-pub use facts::{Told, fact_along};
+pub use dimension::Dimension;
+pub use facts::{KnownByte, fact_along};
 pub use nodes::{JoinedNodes, joined_nodes};
 pub use numbers::{NONE, nones, number_at, number_of};
 pub use points::{pair_facts, point_of, vector_point};

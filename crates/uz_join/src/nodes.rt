@@ -5,10 +5,10 @@ ghost use Rattle.uz_join.specs.Coverage.{SaysInstances};
 
 use crate::boxes::chain_points;
 use crate::finding::chains_of;
-use crate::joining::{joined_along, joined_numbers};
+use crate::joining::{join_along, joined_numbers};
 use crate::source::Source;
 use crate::successors::{Numbering, cut_to_successors, with_number};
-use crate::{Axis, say_instances};
+use crate::{Dimension, say_instances};
 use std::alloc::{AllocError, Global};
 use uz_schedule::{Instance, Point};
 
@@ -61,12 +61,12 @@ fn pays(points: usize, instances: usize) -> bool {
 }
 
 /// Points and of each of the others the number of the one that it is joined into, where these are joined again count by count.
-fn joined_again(
+fn join_again(
     alloc: Global,
     points: Vec<Point>,
     numbers: Vec<u32>,
 ) -> Result<(Vec<Point>, Vec<u32>), AllocError> {
-    let joined = joined_along(alloc, Axis::Counts, points)?;
+    let joined = join_along(alloc, Dimension::Counts, points)?;
     let numbers = match &joined.numbers {
         Some(again) => joined_numbers(numbers, again.as_slice()),
         None => numbers,
@@ -80,12 +80,12 @@ fn joined_source(
     alloc: Global,
     source: &Source,
 ) -> Result<Option<(Vec<Point>, Vec<u32>)>, AllocError> {
-    let mut chains = chains_of(alloc, Axis::Lines, source)?;
+    let mut chains = chains_of(alloc, Dimension::Lines, source)?;
     if pays(chains.count_with_others(source), source.points()) {
         chains.begin_others(source)?;
         if cut_to_successors(alloc, Numbering::ByLines, source, &mut chains)? {
-            let points = chain_points(alloc, Axis::Lines, source, &chains)?;
-            let joined = joined_again(alloc, points, chains.into_numbers())?;
+            let points = chain_points(alloc, Dimension::Lines, source, &chains)?;
+            let joined = join_again(alloc, points, chains.into_numbers())?;
             return Ok(Some(joined));
         }
     }

@@ -9,7 +9,7 @@ use crate::boxes::box_of;
 use crate::chains::Chains;
 use crate::source::Source;
 use crate::successors::with_numbers;
-use crate::{Axis, Guide, NONE, is_wholly_told, number_at, number_of};
+use crate::{Dimension, Guide, NONE, is_wholly_told, number_at, number_of};
 use arrayvec::ArrayVec;
 use std::alloc::{AllocError, Global};
 use uz_schedule::Point;
@@ -29,8 +29,8 @@ pub(crate) struct Joined {
 /// How points are joined.
 #[derive(Drop)]
 struct Plan {
-    /// Along which axis.
-    axis: Axis,
+    /// Along which dimension.
+    dimension: Dimension,
     /// Into which boxes: one for each chain, numbered in the order of the least numbers of their points.
     chains: Chains,
     /// Of each point the number of the one that it is joined into.
@@ -91,7 +91,12 @@ fn box_for(
 {
     let source = Source::of_left(left, plan.count);
     plan.chains.put_points(number, &mut room.ids)?;
-    let point = match box_of(plan.axis, &source, room.ids.as_slice(), plan.into.numbers()) {
+    let point = match box_of(
+        plan.dimension,
+        &source,
+        room.ids.as_slice(),
+        plan.into.numbers(),
+    ) {
         Some(point) => point,
         None => return Ok(None),
     };
@@ -200,7 +205,7 @@ impl Replacing {
 }
 
 /// The joined points of a plan.
-fn joined_by(
+fn join_by(
     alloc: Global,
     points: Vec<Point>,
     plan: &Plan,
@@ -224,9 +229,9 @@ fn joined_by(
 
 /// Points with a box in place of those of each chain. Each point is let go when a box stands for it. Where a chain's points don't say what
 /// its box would, or the joined points don't say what one of them says, the points are kept; where others lead may be wrong then.
-pub(crate) fn replaced(
+pub(crate) fn replace_chains(
     alloc: Global,
-    axis: Axis,
+    dimension: Dimension,
     points: Vec<Point>,
     chains: Chains,
 ) -> Result<Joined, AllocError>
@@ -235,12 +240,12 @@ pub(crate) fn replaced(
 {
     let (into, joined) = chains.joined_numbers(alloc)?;
     let plan = Plan {
-        axis,
+        dimension,
         chains,
         into: Guide::by_numbers(alloc, into),
         count: points.len(),
     };
-    let points = joined_by(alloc, points, &plan, joined)?;
+    let points = join_by(alloc, points, &plan, joined)?;
     let Plan { into, .. } = plan;
     Ok(Joined {
         points,

@@ -1,32 +1,35 @@
 //! What points of one chain have in common: all but their lines or clocks, their successors and the bytes that their facts tell.
 
-use crate::axis::Axis;
+use crate::dimension::Dimension;
 use crate::facts::{
-    Told, are_steady, differences, follow_by, is_pair_steady, put_growths, same_but_bytes,
+    KnownByte, are_steady, differences, follow_by, is_pair_steady, put_growths, same_but_bytes,
 };
 use crate::points::pair_facts;
 use uz_schedule::{Bit, Fact, Instance, Kind, Point, Span, Val};
 
-/// Whether no fact of a point changes along an axis.
-fn is_steady(point: &Point, axis: Axis) -> bool {
-    are_steady(&point.regs, axis)
-        && point.pairs.iter().all(|pair| is_pair_steady(pair, axis))
-        && are_steady(point.stack.as_slice(), axis)
-        && are_steady(point.cells.as_slice(), axis)
+/// Whether no fact of a point changes along a dimension.
+fn is_steady(point: &Point, dimension: Dimension) -> bool {
+    are_steady(&point.regs, dimension)
+        && point
+            .pairs
+            .iter()
+            .all(|pair| is_pair_steady(pair, dimension))
+        && are_steady(point.stack.as_slice(), dimension)
+        && are_steady(point.cells.as_slice(), dimension)
 }
 
 /// Whether a point stands at one line, or at one clock and the count 0.
-fn is_at_one(point: &Point, axis: Axis) -> bool {
-    match axis {
-        Axis::Lines => point.l0 == point.l1,
-        Axis::Counts => point.c0 == 0 && point.c1 == 0 && point.slope == 0,
+fn is_at_one(point: &Point, dimension: Dimension) -> bool {
+    match dimension {
+        Dimension::Lines => point.l0 == point.l1,
+        Dimension::Counts => point.c0 == 0 && point.c1 == 0 && point.slope == 0,
     }
 }
 
-/// Whether a point may be joined with others: it stands at one place of the axis, and isn't of main.
-pub fn is_joinable(point: &Point, axis: Axis) -> bool {
-    is_at_one(point, axis)
-        && is_steady(point, axis)
+/// Whether a point may be joined with others: it stands at one place of the dimension, and isn't of main.
+pub fn is_joinable(point: &Point, dimension: Dimension) -> bool {
+    is_at_one(point, dimension)
+        && is_steady(point, dimension)
         && match point.kind {
             Kind::Main => false,
             Kind::Handler | Kind::Alone => true,
@@ -64,15 +67,15 @@ impl Growth {
 /// What chains are made of: points, and instances in place of their points.
 pub trait Shaped {
     /// What is known of a register or of a byte of the stack.
-    type Byte: Told;
+    type Byte: KnownByte;
     /// What is known of a cell.
-    type Cell: Told;
+    type Cell: KnownByte;
 
     /// The line or clock by which chains are put in order.
-    fn place(&self, axis: Axis) -> u16;
+    fn place(&self, dimension: Dimension) -> u16;
 
     /// Whether another has the same shape but for what is said of registers, stack and cells.
-    fn same_frame(&self, axis: Axis, other: &Self) -> bool;
+    fn same_frame(&self, dimension: Dimension, other: &Self) -> bool;
 
     /// What is known of each register.
     fn regs(&self) -> &[Self::Byte];
@@ -85,14 +88,14 @@ pub trait Shaped {
 }
 
 /// Whether two points stand at the same place of the program, and of the line or of the frame.
-fn same_place(axis: Axis, a: &Point, b: &Point) -> bool {
+fn same_place(dimension: Dimension, a: &Point, b: &Point) -> bool {
     a.kind == b.kind
         && a.pc == b.pc
-        && match axis {
-            Axis::Lines => {
+        && match dimension {
+            Dimension::Lines => {
                 a.clock == b.clock && a.slope == b.slope && a.c0 == b.c0 && a.c1 == b.c1
             }
-            Axis::Counts => a.l0 == b.l0 && a.l1 == b.l1,
+            Dimension::Counts => a.l0 == b.l0 && a.l1 == b.l1,
         }
 }
 
@@ -101,15 +104,15 @@ impl Shaped for Point {
 
     type Cell = Fact;
 
-    fn place(&self, axis: Axis) -> u16 {
-        match axis {
-            Axis::Lines => self.l0,
-            Axis::Counts => self.clock,
+    fn place(&self, dimension: Dimension) -> u16 {
+        match dimension {
+            Dimension::Lines => self.l0,
+            Dimension::Counts => self.clock,
         }
     }
 
-    fn same_frame(&self, axis: Axis, other: &Point) -> bool {
-        same_place(axis, self, other)
+    fn same_frame(&self, dimension: Dimension, other: &Point) -> bool {
+        same_place(dimension, self, other)
             && (self.pending == other.pending && self.top == other.top && self.temp == other.temp)
             && self.flags == other.flags
             && self.compared == other.compared
@@ -130,12 +133,12 @@ impl Shaped for Point {
 }
 
 /// Whether two instances stand at the same place of the program, and of the line or of the frame.
-fn same_instance_place(axis: Axis, a: &Instance, b: &Instance) -> bool {
+fn same_instance_place(dimension: Dimension, a: &Instance, b: &Instance) -> bool {
     a.kind == b.kind
         && a.pc == b.pc
-        && match axis {
-            Axis::Lines => a.clock == b.clock,
-            Axis::Counts => a.line == b.line,
+        && match dimension {
+            Dimension::Lines => a.clock == b.clock,
+            Dimension::Counts => a.line == b.line,
         }
 }
 
@@ -144,15 +147,15 @@ impl Shaped for Instance {
 
     type Cell = Span;
 
-    fn place(&self, axis: Axis) -> u16 {
-        match axis {
-            Axis::Lines => self.line,
-            Axis::Counts => self.clock,
+    fn place(&self, dimension: Dimension) -> u16 {
+        match dimension {
+            Dimension::Lines => self.line,
+            Dimension::Counts => self.clock,
         }
     }
 
-    fn same_frame(&self, axis: Axis, other: &Instance) -> bool {
-        same_instance_place(axis, self, other)
+    fn same_frame(&self, dimension: Dimension, other: &Instance) -> bool {
+        same_instance_place(dimension, self, other)
             && (self.pending == other.pending && self.top == other.top && self.temp == other.temp)
             && self.flags == other.flags
             && self.compared == other.compared
@@ -173,16 +176,16 @@ impl Shaped for Instance {
 }
 
 /// Whether two have one shape.
-pub fn same_shape<P: Shaped>(axis: Axis, a: &P, b: &P) -> bool {
-    a.same_frame(axis, b)
+pub fn same_shape<P: Shaped>(dimension: Dimension, a: &P, b: &P) -> bool {
+    a.same_frame(dimension, b)
         && same_but_bytes(a.regs(), b.regs())
         && same_but_bytes(a.stack(), b.stack())
         && same_but_bytes(a.cells(), b.cells())
 }
 
 /// Whether one has the shape of the last of a chain, and each byte grows by so much from that one to it.
-pub fn goes_on<P: Shaped>(axis: Axis, growth: &Growth, last: &P, new: &P) -> bool {
-    last.same_frame(axis, new)
+pub fn goes_on<P: Shaped>(dimension: Dimension, growth: &Growth, last: &P, new: &P) -> bool {
+    last.same_frame(dimension, new)
         && follow_by(&growth.regs, last.regs(), new.regs())
         && follow_by(&growth.stack, last.stack(), new.stack())
         && follow_by(&growth.cells, last.cells(), new.cells())
@@ -201,15 +204,15 @@ const SEED: u64 = 0xcbf2_9ce4_8422_2325;
 const FACTOR: u64 = 0x0000_0100_0000_01b3;
 
 /// One more number in a key.
-fn mixed(key: u64, number: u64) -> u64 {
+fn mix(key: u64, number: u64) -> u64 {
     (key ^ number).wrapping_mul(FACTOR)
 }
 
 /// A key with what is known of bytes.
-fn mixed_told<T: Told>(key: u64, told: &[T]) -> u64 {
-    let mut key = mixed(key, told.len() as u64);
+fn mix_bytes<T: KnownByte>(key: u64, told: &[T]) -> u64 {
+    let mut key = mix(key, told.len() as u64);
     for byte in told {
-        key = mixed(key, byte.code());
+        key = mix(key, byte.code());
     }
     key
 }
@@ -224,11 +227,11 @@ fn flag_code(flag: Bit) -> u64 {
 }
 
 /// The key of a point's place.
-fn place_key(axis: Axis, point: &Point) -> u64 {
-    let pc = mixed(SEED, u64::from(point.pc));
-    match axis {
-        Axis::Lines => mixed(mixed(pc, u64::from(point.clock)), u64::from(point.c1)),
-        Axis::Counts => mixed(mixed(pc, u64::from(point.l0)), u64::from(point.l1)),
+fn place_key(dimension: Dimension, point: &Point) -> u64 {
+    let pc = mix(SEED, u64::from(point.pc));
+    match dimension {
+        Dimension::Lines => mix(mix(pc, u64::from(point.clock)), u64::from(point.c1)),
+        Dimension::Counts => mix(mix(pc, u64::from(point.l0)), u64::from(point.l1)),
     }
 }
 
@@ -241,20 +244,20 @@ fn upper_half(key: u64) -> u32 {
 fn shape_key<P: Shaped>(place: u64, flags: &[Bit; 7], of: &P) -> u32 {
     let mut key = place;
     for flag in flags {
-        key = mixed(key, flag_code(*flag));
+        key = mix(key, flag_code(*flag));
     }
-    let bytes = mixed_told(mixed_told(key, of.regs()), of.stack());
-    upper_half(mixed_told(bytes, of.cells()))
+    let bytes = mix_bytes(mix_bytes(key, of.regs()), of.stack());
+    upper_half(mix_bytes(bytes, of.cells()))
 }
 
 /// A number that points of one shape have alike. Few others have it.
-pub fn key(axis: Axis, point: &Point) -> u32 {
-    let place = mixed(place_key(axis, point), u64::from(point.top));
+pub fn key(dimension: Dimension, point: &Point) -> u32 {
+    let place = mix(place_key(dimension, point), u64::from(point.top));
     shape_key(place, &point.flags, point)
 }
 
 /// A number that instances have alike which differ in their lines and in single bytes. Few others have it.
 pub fn node_key(at: &Instance) -> u32 {
-    let place = mixed(mixed(SEED, u64::from(at.pc)), u64::from(at.clock));
-    shape_key(mixed(place, u64::from(at.top)), &at.flags, at)
+    let place = mix(mix(SEED, u64::from(at.pc)), u64::from(at.clock));
+    shape_key(mix(place, u64::from(at.top)), &at.flags, at)
 }

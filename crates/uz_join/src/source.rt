@@ -1,6 +1,6 @@
 //! What is joined: points that are made, and behind them those of instances, of which each is made where it is looked at.
 
-use crate::copies::copied_point;
+use crate::copies::copy_point;
 use crate::{number_at, number_of, point_of};
 use arrayvec::ArrayVec;
 use uz_schedule::{Instance, Kind, Point};
@@ -63,7 +63,7 @@ impl<'a> Source<'a> {
     }
 
     /// The made point of a number.
-    fn made(&self, id: u32) -> Option<&'a Point> {
+    fn made_point(&self, id: u32) -> Option<&'a Point> {
         self.made.get(self.made_place(id))
     }
 
@@ -84,7 +84,7 @@ impl<'a> Source<'a> {
 
     /// Whether there is a point of this number.
     pub(crate) fn is_there(&self, id: u32) -> bool {
-        match self.made(id) {
+        match self.made_point(id) {
             Some(_) => true,
             None => match self.numbers.get(self.place(id)) {
                 Some(number) => *number == id,
@@ -106,8 +106,8 @@ impl<'a> Source<'a> {
 
     /// The point of a number.
     pub(crate) fn point(&self, id: u32) -> Option<Point> {
-        match self.made(id) {
-            Some(point) => Some(copied_point(point)),
+        match self.made_point(id) {
+            Some(point) => Some(copy_point(point)),
             None => match self.nodes.get(self.place(id)) {
                 Some(at) => Some(point_of(at, ArrayVec::new())),
                 None => None,
@@ -117,7 +117,7 @@ impl<'a> Source<'a> {
 
     /// The first line of a point.
     pub(crate) fn line(&self, id: u32) -> u16 {
-        match self.made(id) {
+        match self.made_point(id) {
             Some(point) => point.l0,
             None => match self.nodes.get(self.place(id)) {
                 Some(at) => at.line,
@@ -146,7 +146,7 @@ impl<'a> Source<'a> {
 
     /// The numbers of the points where a point leads.
     pub(crate) fn next(&self, id: u32) -> ArrayVec<u32, 16> {
-        match self.made(id) {
+        match self.made_point(id) {
             Some(point) => {
                 let mut next = ArrayVec::new();
                 let _full = next.try_extend_from_slice(point.next.as_slice()).is_err();

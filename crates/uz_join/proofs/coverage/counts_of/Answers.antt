@@ -1,5 +1,4 @@
-use Rattle.std.proofs.Common.{◌≡◌, ◌∷◌, [], ◌++◌, ap, arith, length, length-append}
-use Rattle.std.proofs.lemmas.Option.{slice_get_within}
+use Rattle.uz_join.proofs.Common.{◌≡◌, ◌∷◌, [], ◌++◌, ap, arith, length, length-append, slice_get_within}
 use Rattle.uz_join.proofs.CoverageLemmas.{said_more}
 use Rattle.uz_join.proofs.coverage.counts_of.Goals as goal
 

@@ -1,7 +1,4 @@
-use Rattle.std.proofs.Common.{◌≡◌, ◌<◌, ℕ, length}
-use Rattle.std.specs.Prelude.{Some, slice_get}
-use Rattle.uz_schedule.specs.declared.states.Instance.{Instance}
-use Rattle.uz_join.specs.Coverage.{SaidBy}
+use Rattle.uz_join.proofs.Common.{◌≡◌, ◌<◌, ℕ, length, Some, slice_get, Instance, SaidBy}
 use Rattle.uz_join.proofs.coverage.counts_of.Given as goal
 
 -- those so far are said

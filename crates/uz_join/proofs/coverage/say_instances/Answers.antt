@@ -1,7 +1,5 @@
-use Rattle.std.proofs.Common.{ℕ, subst}
-use Rattle.std.specs.Prelude.{IfSome, Vec}
+use Rattle.uz_join.proofs.Common.{ℕ, subst, IfSome, Vec, AreSaid}
 use Rattle.std.specs.declared.alloc.Global.{Global}
-use Rattle.uz_join.specs.Coverage.{AreSaid}
 use Rattle.uz_join.proofs.CoverageLemmas.{says_all}
 use Rattle.uz_join.proofs.coverage.say_instances.Goals as goal
 

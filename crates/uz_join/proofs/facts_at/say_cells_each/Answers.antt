@@ -1,5 +1,4 @@
-use Rattle.std.proofs.Common.{arith}
-use Rattle.uz_schedule.specs.Instances.{cell_span}
+use Rattle.uz_join.proofs.Common.{arith, cell_span}
 use Rattle.uz_join.proofs.CoverageLemmas.{map_is}
 use Rattle.uz_join.proofs.facts_at.say_cells_each.Goals as goal
 

@@ -1,7 +1,4 @@
-use Rattle.std.proofs.Common.{◌≡◌, ◌<◌, ℕ, get_or}
-use Rattle.uz_schedule.specs.Ends.{Ends}
-use Rattle.uz_schedule.specs.Instances.{cell_span}
-use Rattle.uz_schedule.specs.declared.facts.Fact.{Fact}
+use Rattle.uz_join.proofs.Common.{◌≡◌, ◌<◌, ℕ, get_or, Ends, cell_span, Fact}
 use Rattle.uz_join.proofs.facts_at.say_cells_each.Given as goal
 
 -- those so far are said

@@ -1,5 +1,4 @@
-use Rattle.std.proofs.Common.{arith}
-use Rattle.uz_schedule.specs.Instances.{val_of}
+use Rattle.uz_join.proofs.Common.{arith, val_of}
 use Rattle.uz_join.proofs.CoverageLemmas.{map_is}
 use Rattle.uz_join.proofs.facts_at.say_each.Goals as goal
 

@@ -1,6 +1,4 @@
-use Rattle.std.proofs.Common.{◌≡◌, ◌<◌, ℕ, get_or}
-use Rattle.uz_schedule.specs.Instances.{val_of}
-use Rattle.uz_schedule.specs.declared.facts.Fact.{Fact}
+use Rattle.uz_join.proofs.Common.{◌≡◌, ◌<◌, ℕ, get_or, val_of, Fact}
 use Rattle.uz_join.proofs.facts_at.say_same_each.Given as goal
 
 -- those so far say the same

@@ -1,8 +1,4 @@
-use Rattle.std.proofs.Common.{◌≡◌, ◌<◌, ℕ, Some, map, slice_get, take}
-use Rattle.arrayvec.specs.ArrayVec.{array_vec_len}
-use Rattle.uz_schedule.specs.Ends.{Ends}
-use Rattle.uz_schedule.specs.WellFormed.{RangeFits}
-use Rattle.uz_join.specs.Points.{byte_fact}
+use Rattle.uz_join.proofs.Common.{◌≡◌, ◌<◌, ℕ, Some, map, slice_get, take, array_vec_len, Ends, RangeFits, byte_fact}
 use Rattle.uz_join.proofs.points.cell_facts.Given as goal
 
 -- one fact for each so far

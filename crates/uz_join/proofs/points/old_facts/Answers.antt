@@ -1,5 +1,4 @@
-use Rattle.std.proofs.Common.{arith}
-use Rattle.std.proofs.lemmas.Grind.{common_steps}
+use Rattle.uz_join.proofs.Common.{arith, common_steps}
 use Rattle.uz_join.proofs.OldFacts.{old_facts_more}
 use Rattle.uz_join.proofs.points.old_facts.Goals as goal
 

@@ -1,5 +1,4 @@
-use Rattle.std.proofs.Common.{◌≡◌, length, take}
-use Rattle.uz_join.specs.Points.{old_facts}
+use Rattle.uz_join.proofs.Common.{◌≡◌, length, take, old_facts}
 use Rattle.uz_join.proofs.points.old_facts.Given as goal
 
 -- the first r registers

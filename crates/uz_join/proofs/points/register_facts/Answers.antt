@@ -1,6 +1,4 @@
-use Rattle.std.proofs.Common.{arith, refl, subst, sym}
-use Rattle.std.proofs.lemmas.Grind.{common_steps}
-use Rattle.uz_join.specs.Points.{IsOrderedVal}
+use Rattle.uz_join.proofs.Common.{arith, refl, subst, sym, common_steps, IsOrderedVal}
 use Rattle.uz_join.proofs.EachLemmas.{each_more, each_all}
 use Rattle.uz_join.proofs.points.register_facts.Goals as goal
 

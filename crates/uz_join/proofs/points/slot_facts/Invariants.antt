@@ -1,7 +1,4 @@
-use Rattle.std.proofs.Common.{◌≡◌, ◌<◌, ℕ, Some, map, slice_get, take}
-use Rattle.arrayvec.specs.ArrayVec.{array_vec_len}
-use Rattle.uz_schedule.specs.declared.facts.Val.{Val}
-use Rattle.uz_join.specs.Points.{IsOrderedVal, fact_of}
+use Rattle.uz_join.proofs.Common.{◌≡◌, ◌<◌, ℕ, Some, map, slice_get, take, array_vec_len, Val, IsOrderedVal, fact_of}
 use Rattle.uz_join.proofs.points.slot_facts.Given as goal
 
 -- one fact for each so far

@@ -1,5 +1,4 @@
-use Rattle.std.proofs.Common.{ℕ, ◌≤◌, ◌<◌}
-use Rattle.uz_join.specs.Same.{IsTold}
+use Rattle.uz_join.proofs.Common.{ℕ, ◌≤◌, ◌<◌, IsTold}
 use Rattle.uz_join.proofs.sameness.counts_told.Given as goal
 
 -- those so far are told

@@ -1,5 +1,4 @@
-use Rattle.std.proofs.Common.{refl}
-use Rattle.uz_join.specs.Same.{IsTold}
+use Rattle.uz_join.proofs.Common.{refl, IsTold}
 use Rattle.uz_join.proofs.CoverageLemmas.{one_more_line}
 use Rattle.uz_join.proofs.sameness.is_wholly_told.Goals as goal
 

@@ -1,7 +1,4 @@
-use Rattle.std.proofs.Common.{◌≡◌, ◌<◌, ℕ}
-use Rattle.std.specs.Prelude.{Some, slice_get}
-use Rattle.uz_schedule.specs.declared.states.Point.{Point}
-use Rattle.uz_join.specs.Coverage.{IsSaidOver}
+use Rattle.uz_join.proofs.Common.{◌≡◌, ◌<◌, ℕ, Some, slice_get, Point, IsSaidOver}
 use Rattle.uz_join.proofs.coverage.Coverage.has_all.Given as goal
 
 -- those so far are instances

@@ -1,5 +1,4 @@
-use Rattle.std.proofs.Common.{ℕ, ◌≤◌, ◌<◌}
-use Rattle.uz_join.specs.Coverage.{IsSaidBack}
+use Rattle.uz_join.proofs.Common.{ℕ, ◌≤◌, ◌<◌, IsSaidBack}
 use Rattle.uz_join.proofs.coverage.Coverage.has_counts.Given as goal
 
 -- those so far are instances

@@ -1,5 +1,4 @@
-use Rattle.std.proofs.Common.{refl}
-use Rattle.uz_join.specs.Coverage.{IsSaidBack}
+use Rattle.uz_join.proofs.Common.{refl, IsSaidBack}
 use Rattle.uz_join.proofs.CoverageLemmas.{one_more_line}
 use Rattle.uz_join.proofs.coverage.Coverage.has_lines.Goals as goal
 

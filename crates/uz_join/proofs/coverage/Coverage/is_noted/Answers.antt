@@ -1,6 +1,4 @@
-use Rattle.std.proofs.Common.{◌≡◌, subst}
-use Rattle.std.specs.Prelude.{Some, slice_get}
-use Rattle.uz_join.specs.Coverage.{IsSaidBack, Coverage}
+use Rattle.uz_join.proofs.Common.{◌≡◌, subst, Some, slice_get, IsSaidBack, Coverage}
 use Rattle.uz_join.proofs.CoverageLemmas.{IsNoted, said_back}
 use Rattle.uz_join.proofs.coverage.Coverage.is_noted.Goals as goal
 

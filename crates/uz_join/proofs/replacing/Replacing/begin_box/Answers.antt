@@ -1,6 +1,4 @@
-use Rattle.std.proofs.Common.{refl, subst}
-use Rattle.std.specs.Prelude.{IfSome}
-use Rattle.uz_join.specs.Same.{IsWhollyTold}
+use Rattle.uz_join.proofs.Common.{refl, subst, IfSome, IsWhollyTold}
 use Rattle.uz_join.proofs.PutLemmas.{box_left_out, box_put}
 use Rattle.uz_join.proofs.replacing.Replacing.begin_box.Goals as goal
 

@@ -1,6 +1,4 @@
-use Rattle.std.proofs.Common.{◌∙◌, ◌++◌, ◌∷◌, [], ap, refl, sym, subst, List}
-use Rattle.uz_schedule.specs.declared.states.Point.{Point}
-use Rattle.uz_join.specs.Replacing.{IsPut}
+use Rattle.uz_join.proofs.Common.{◌∙◌, ◌++◌, ◌∷◌, [], ap, refl, sym, subst, List, Point, IsPut}
 use Rattle.uz_join.proofs.PutLemmas.{none_left, point_kept, point_let_go}
 use Rattle.uz_join.proofs.replacing.Replacing.pass.Goals as goal
 

@@ -1,5 +1,5 @@
 use Rattle.uz_join.proofs.SameFacts.{same_through}
-use Rattle.uz_join.proofs.joining.joined_both.Goals as goal
+use Rattle.uz_join.proofs.joining.join_both.Goals as goal
 
 pub returns-clause-same : goal.returns-clause-same
 returns-clause-same c =

@@ -1,5 +1,5 @@
 use Rattle.uz_join.specs.Replacing.{AreSoFar}
-use Rattle.uz_join.proofs.replacing.joined_by.Given as goal
+use Rattle.uz_join.proofs.replacing.join_by.Given as goal
 
 -- the points so far have been passed
 abbrev pub invariant-loop-i : goal.invariant-loop-i

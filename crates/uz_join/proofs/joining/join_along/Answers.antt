@@ -1,5 +1,5 @@
 use Rattle.uz_join.proofs.SameFacts.{same_as_itself}
-use Rattle.uz_join.proofs.joining.joined_along.Goals as goal
+use Rattle.uz_join.proofs.joining.join_along.Goals as goal
 
 pub returns-in-None-clause-same : goal.returns-in-None-clause-same
 returns-in-None-clause-same c = same_as_itself c.args.points.items

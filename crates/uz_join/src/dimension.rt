@@ -1,10 +1,10 @@
-//! What points follow each other by.
+//! The dimension of a box of points along which they follow each other: its lines or its counts.
 
 use uz_schedule::Point;
 
-/// What points of one chain follow each other by.
+/// What points of one chain follow each other by: the lines of their box, or its counts.
 #[derive(Clone, Copy)]
-pub enum Axis {
+pub enum Dimension {
     /// They stand at lines that follow each other, each at one.
     Lines,
     /// They stand at clocks with the same distance, each at one: turns of a loop.
@@ -14,28 +14,28 @@ pub enum Axis {
 /// The most points of a chain by counts: counts are bytes.
 const MOST_COUNTS: u32 = 256;
 
-impl Axis {
+impl Dimension {
     /// Whether a place may be the second one of a chain that begins at another: the next line, or a later clock.
     pub fn may_follow(self, from: u16, to: u16) -> bool {
         match self {
-            Axis::Lines => u32::from(to) == u32::from(from) + 1,
-            Axis::Counts => from < to,
+            Dimension::Lines => u32::from(to) == u32::from(from) + 1,
+            Dimension::Counts => from < to,
         }
     }
 
     /// Whether a chain of so many points may have one more.
     pub fn has_room(self, count: u32) -> bool {
         match self {
-            Axis::Lines => true,
-            Axis::Counts => count < MOST_COUNTS,
+            Dimension::Lines => true,
+            Dimension::Counts => count < MOST_COUNTS,
         }
     }
 
     /// The line or count at which the box of a chain with this first point begins.
     pub fn start(self, first: &Point) -> u16 {
         match self {
-            Axis::Lines => first.l0,
-            Axis::Counts => 0,
+            Dimension::Lines => first.l0,
+            Dimension::Counts => 0,
         }
     }
 }
