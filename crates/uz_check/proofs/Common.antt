@@ -84,7 +84,7 @@ pub use Rattle.uz_rules.specs.Meets.{LevelMeets, Meets, TimerCounts, TimerMeets}
 pub use Rattle.uz_rules.specs.MemoryMeets.{CellsHold, HeaderHolds, depth_below}
 pub use Rattle.uz_rules.specs.Successors.{LiesInPoint, lies_at, lies_in_any, lies_in_point}
 unfoldable pub use Rattle.uz_rules.specs.Successors.{any_from}
-pub use Rattle.uz_rules.specs.Visit.{IsVisit}
+pub use Rattle.uz_rules.specs.Visit.{IsVisit, Keeps}
 pub use Rattle.uz_scan.specs.Lines.{is_high}
 pub use Rattle.uz_scan.specs.Pictures.{newest_first}
 pub use Rattle.uz_schedule.proofs.Places.{at_after, at_more, at_same, event_here, level_here}

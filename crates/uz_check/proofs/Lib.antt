@@ -2,6 +2,7 @@ mod Common
 mod SteadinessLaws
 mod Looked
 mod Totals
+mod VisitLemmas
 mod Accepting
 mod FrameTold
 pub mod OneVerdict

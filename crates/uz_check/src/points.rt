@@ -1,9 +1,9 @@
 //! The local rule of all instances, in order. A line that the line before implies isn't looked at.
 
-ghost use Rattle.std.specs.Prelude.{◌≡◌, ◌<◌, ◌≤◌, ◌+◌, ◌-◌, suc, length, slice_get, Some};
-ghost use Rattle.uz_schedule.specs.WellFormed.{WellFormed, BoxFits};
+ghost use Rattle.std.specs.Prelude.{◌≡◌, ◌≤◌, ◌+◌, ◌-◌, suc};
+ghost use Rattle.uz_schedule.specs.WellFormed.{WellFormed};
 ghost use Rattle.uz_check.specs.ImpliedLines.{RunsFrom, instances_to_check_of, instances_to_check};
-ghost use Rattle.uz_rules.specs.Visit.{IsVisit};
+ghost use Rattle.uz_rules.specs.Visit.{IsVisit, Keeps};
 ghost use Rattle.uz_check.specs.Refusal.{InstanceRefusal, LineRefusal, PointRefusal, PointsRefusal};
 
 use crate::family_laws::lines_fold;
@@ -12,55 +12,55 @@ use crate::lines::alike_runs;
 use crate::reach::reach_of;
 use crate::refusal::RefusedWhy;
 use uz_hex::Image;
-use uz_rules::Visit;
-use uz_schedule::{Cert, Point};
+use uz_rules::{LastInstance, Visit};
+use uz_schedule::Cert;
 
-/// Why an instance is refused. It is looked at once.
+/// Why an instance of the visited point is refused. It is looked at once.
 #[tactic(auto, unfolding(crate::specs::Refusal::InstanceRefusal))]
 fn instance_refusal(
-    image: &Image,
-    cert: &Cert,
-    id: u32,
+    visit: &Visit<'_>,
+    last: &mut LastInstance,
     l: u16,
     c: u8,
-    visit: &mut Visit,
     looked: &mut u64,
 ) -> Option<RefusedWhy>
-    requires fits { WellFormed cert.now }
-    requires point { id < length cert.now.points }
-    requires visit { IsVisit image.now cert.now id visit.old }
-    ensures why { InstanceRefusal image.now cert.now id l c result }
+    requires fits { WellFormed visit.now.cert.now }
+    requires visit { IsVisit visit.now }
+    requires keeps { Keeps visit.now.point.now last.old }
+    ensures why { InstanceRefusal visit.now.image.now visit.now.cert.now visit.now.id l c result }
     ensures one { looked.new ≤ looked.old + 1 }
-    ensures visit { IsVisit image.now cert.now id visit.new }
+    ensures keeps { Keeps visit.now.point.now last.new }
 {
-    match visit.local(image, cert, id, l, c, looked) {
+    match visit.local(last, l, c, looked) {
         Ok(()) => None,
-        Err(why) => Some(RefusedWhy::Point { id, l, c, why }),
+        Err(why) => Some(RefusedWhy::Point {
+            id: visit.id,
+            l,
+            c,
+            why,
+        }),
     }
 }
 
 /// The first refusal among a point's instances on a line. Each is looked at once.
 #[tactic(auto, unfolding(crate::specs::Refusal::LineRefusal))]
 fn line_refusal(
-    image: &Image,
-    cert: &Cert,
-    id: u32,
-    point: &Point,
+    visit: &Visit<'_>,
+    last: &mut LastInstance,
     l: u16,
-    visit: &mut Visit,
     looked: &mut u64,
 ) -> Option<RefusedWhy>
-    requires fits { WellFormed cert.now }
-    requires point { id < length cert.now.points }
-    requires visit { IsVisit image.now cert.now id visit.old }
-    requires counts { point.now.c1 ≤ 255 }
-    requires order { point.now.c0 ≤ point.now.c1 }
-    ensures first { LineRefusal image.now cert.now id point.now l result }
-    ensures few { looked.new ≤ looked.old + (suc point.now.c1 - point.now.c0) }
-    ensures visit { IsVisit image.now cert.now id visit.new }
+    requires fits { WellFormed visit.now.cert.now }
+    requires visit { IsVisit visit.now }
+    requires keeps { Keeps visit.now.point.now last.old }
+    requires counts { visit.now.point.now.c1 ≤ 255 }
+    requires order { visit.now.point.now.c0 ≤ visit.now.point.now.c1 }
+    ensures first { LineRefusal visit.now.image.now visit.now.cert.now visit.now.id visit.now.point.now l result }
+    ensures few { looked.new ≤ looked.old + (suc visit.now.point.now.c1 - visit.now.point.now.c0) }
+    ensures keeps { Keeps visit.now.point.now last.new }
 {
-    for c in u16::from(point.c0)..u16::from(point.c1) + 1 {
-        if let Some(why) = instance_refusal(image, cert, id, l, c as u8, visit, looked) {
+    for c in u16::from(visit.point.c0)..u16::from(visit.point.c1) + 1 {
+        if let Some(why) = instance_refusal(visit, last, l, c as u8, looked) {
             return Some(why);
         }
     }
@@ -70,92 +70,69 @@ fn line_refusal(
 /// The first refusal among a point's instances, line by line. Those on lines that the line before implies aren't looked at.
 #[tactic(auto, unfolding(crate::specs::Refusal::PointRefusal))]
 fn lines_refusal(
-    image: &Image,
-    cert: &Cert,
+    visit: &Visit<'_>,
+    last: &mut LastInstance,
     runs: &[u16; 525],
-    id: u32,
-    point: &Point,
-    visit: &mut Visit,
     looked: &mut u64,
 ) -> Option<RefusedWhy>
-    requires fits { WellFormed cert.now }
-    requires point { slice_get cert.now.points id ≡ Some point.now }
-    requires box_fits { BoxFits (length cert.now.schedule.lines) point.now }
-    requires noted { RunsFrom cert.now runs.now 0 }
-    requires visit { IsVisit image.now cert.now id visit.old }
-    ensures first { PointRefusal image.now cert.now id point.now result }
-    ensures few { looked.new ≤ looked.old + instances_to_check_of cert.now point.now }
+    requires fits { WellFormed visit.now.cert.now }
+    requires visit { IsVisit visit.now }
+    requires keeps { Keeps visit.now.point.now last.old }
+    requires noted { RunsFrom visit.now.cert.now runs.now 0 }
+    ensures first { PointRefusal visit.now.image.now visit.now.cert.now visit.now.id visit.now.point.now result }
+    ensures few { looked.new ≤ looked.old + instances_to_check_of visit.now.cert.now visit.now.point.now }
 {
     lines_fold();
-    let reach = reach_of(cert, point);
-    let mut l = point.l0;
-    'lines: while l <= point.l1 {
-        if let Some(why) = line_refusal(image, cert, id, point, l, visit, looked) {
+    let reach = reach_of(visit.cert, visit.point);
+    let mut l = visit.point.l0;
+    'lines: while l <= visit.point.l1 {
+        if let Some(why) = line_refusal(visit, last, l, looked) {
             return Some(why);
         }
-        l = next_to_check(cert, runs, reach, point, l + 1);
+        l = next_to_check(visit.cert, runs, reach, visit.point, l + 1);
     }
     None
 }
 
 /// The first refusal among the instances of a point whose box has one line. It implies no other line, so nothing is asked of that.
-#[tactic(auto, using(crate::proofs::Looked::one_line_refusal, crate::proofs::Looked::one_line_looked))]
+#[tactic(auto, using(crate::proofs::Looked::one_line_refusal, crate::proofs::Looked::one_line_looked, crate::proofs::Totals::box_of))]
 fn one_line_refusal(
-    image: &Image,
-    cert: &Cert,
-    id: u32,
-    point: &Point,
-    visit: &mut Visit,
+    visit: &Visit<'_>,
+    last: &mut LastInstance,
     looked: &mut u64,
 ) -> Option<RefusedWhy>
-    requires fits { WellFormed cert.now }
-    requires point { id < length cert.now.points }
-    requires visit { IsVisit image.now cert.now id visit.old }
-    requires box_fits { BoxFits (length cert.now.schedule.lines) point.now }
-    requires one { point.now.l0 ≡ point.now.l1 }
-    ensures first { PointRefusal image.now cert.now id point.now result }
-    ensures few { looked.new ≤ looked.old + instances_to_check_of cert.now point.now }
+    requires fits { WellFormed visit.now.cert.now }
+    requires visit { IsVisit visit.now }
+    requires keeps { Keeps visit.now.point.now last.old }
+    requires one { visit.now.point.now.l0 ≡ visit.now.point.now.l1 }
+    ensures first { PointRefusal visit.now.image.now visit.now.cert.now visit.now.id visit.now.point.now result }
+    ensures few { looked.new ≤ looked.old + instances_to_check_of visit.now.cert.now visit.now.point.now }
 {
-    line_refusal(image, cert, id, point, point.l0, visit, looked)
+    line_refusal(visit, last, visit.point.l0, looked)
 }
 
-/// The first refusal among a point's instances. `visit` is room for the visit of the point, whatever it has.
+/// The first refusal among a point's instances. `last` is room for them, whatever it has.
 fn point_refusal(
-    image: &Image,
-    cert: &Cert,
+    visit: &Visit<'_>,
+    last: &mut LastInstance,
     runs: &[u16; 525],
-    id: u32,
-    point: &Point,
-    visit: &mut Visit,
     looked: &mut u64,
 ) -> Option<RefusedWhy>
-    requires fits { WellFormed cert.now }
-    requires point { slice_get cert.now.points id ≡ Some point.now }
-    requires box_fits { BoxFits (length cert.now.schedule.lines) point.now }
-    requires noted { RunsFrom cert.now runs.now 0 }
-    ensures first { PointRefusal image.now cert.now id point.now result }
-    ensures few { looked.new ≤ looked.old + instances_to_check_of cert.now point.now }
+    requires fits { WellFormed visit.now.cert.now }
+    requires visit { IsVisit visit.now }
+    requires noted { RunsFrom visit.now.cert.now runs.now 0 }
+    ensures first { PointRefusal visit.now.image.now visit.now.cert.now visit.now.id visit.now.point.now result }
+    ensures few { looked.new ≤ looked.old + instances_to_check_of visit.now.cert.now visit.now.point.now }
 {
-    visit.begin(image, cert, id);
-    if point.l0 == point.l1 {
-        one_line_refusal(image, cert, id, point, visit, looked)
+    last.forget();
+    if visit.point.l0 == visit.point.l1 {
+        one_line_refusal(visit, last, looked)
     } else {
-        lines_refusal(image, cert, runs, id, point, visit, looked)
+        lines_refusal(visit, last, runs, looked)
     }
 }
 
-/// A point of the certificate.
-#[tactic(auto, using(crate::proofs::Totals::box_of))]
-fn point_of(cert: &Cert, id: u32) -> &Point
-    requires fits { WellFormed cert.now }
-    requires there { id < length cert.now.points }
-    ensures is { slice_get cert.now.points id ≡ Some result.now }
-    ensures box_fits { BoxFits (length cert.now.schedule.lines) result.now }
-{
-    &cert.points.as_slice()[id as usize]
-}
-
-/// The first refusal among all points. One visit serves them all.
+/// The first refusal among all points.
 #[tactic(auto, unfolding(crate::specs::Refusal::PointsRefusal))]
 pub(crate) fn points_refusal(image: &Image, cert: &Cert, looked: &mut u64) -> Option<RefusedWhy>
     requires { WellFormed cert.now }
@@ -163,10 +140,10 @@ pub(crate) fn points_refusal(image: &Image, cert: &Cert, looked: &mut u64) -> Op
     ensures few { looked.new ≤ looked.old + instances_to_check cert.now }
 {
     let runs = alike_runs(cert);
-    let mut visit = Visit::empty();
+    let mut last = LastInstance::none();
     'points: for id in 0..cert.points.len() as u32 {
-        let point = point_of(cert, id);
-        if let Some(why) = point_refusal(image, cert, &runs, id, point, &mut visit, looked) {
+        let visit = Visit::new(image, cert, id);
+        if let Some(why) = point_refusal(&visit, &mut last, &runs, looked) {
             return Some(why);
         }
     }

@@ -6,6 +6,7 @@ use Rattle.uz_rules.proofs.Common.{InstanceLimits, local_fail, IsLocal, Fail, Is
 use Rattle.uz_rules.specs.Moving.{place_at_clock, place_in}
 use Rattle.uz_rules.proofs.LimitsHold.{instance_limits}
 use Rattle.uz_rules.specs.declared.visit.Visit.{Visit}
+use Rattle.uz_rules.specs.declared.visit.LastInstance.{LastInstance}
 use Rattle.uz_rules.specs.Visit.{Keeps, IsVisit, IsAt}
 use Rattle.uz_rules.proofs.LocalLaws.{is_local}
 
@@ -70,91 +71,60 @@ said_in s p l c inst e = by_box (is_in_box p l c) e
 
 -- The point of a certificate
 
-of_point : (cert : Cert) (id l c : ℕ) (p : Point) → slice_get cert.points id ≡ Some p
-    → instance_at cert id l c ≡ instance_in cert.schedule p l c
-of_point cert id l c p found = ap (option_and_then (λ q. instance_in cert.schedule q l c)) found
+of_point : (visit : Visit) (l c : ℕ) → IsVisit visit
+    → instance_at visit.cert.now visit.id l c ≡ instance_in visit.cert.now.schedule visit.point.now l c
+of_point visit l c v = ap (option_and_then (λ q. instance_in visit.cert.now.schedule q l c)) v.point
+
+-- where nothing is kept
+pub nothing_kept : (last : LastInstance) → last.kept ≡ false → (p : Point) → Keeps p last
+nothing_kept last bare p = record { instance = λ k. absurd (never k); varying = λ k. absurd (never k) }
+  where
+    never : last.kept ≡ true → ⊥
+    never k = let both : true ≡ false = sym k ∙ bare in cc
 
 -- the first instance is made
-pub first_there : (cert : Cert) (id l c : ℕ) (p : Point) (visit : Visit) → slice_get cert.points id ≡ Some p
-    → instance_at cert id l c ≡ Some visit.at → (visit.kept ≡ true → IsVarying p visit.varying) → IsAt cert id l c p true visit
-first_there cert id l c p visit found e varying = record {
+pub first_there : (visit : Visit) (l c : ℕ) (last : LastInstance) → IsVisit visit → instance_at visit.cert.now visit.id l c ≡ Some last.at
+    → (last.kept ≡ true → IsVarying visit.point.now last.varying) → IsAt visit l c true last
+first_there visit l c last v e varying = record {
   is = e;
   keeps = record {
-    instance = λ k. said_in cert.schedule p l c visit.at (sym (of_point cert id l c p found) ∙ e);
+    instance = λ k. said_in visit.cert.now.schedule visit.point.now l c last.at (sym (of_point visit l c v) ∙ e);
     varying = varying;
   };
 }
 
 -- none is kept
-pub first_none : (cert : Cert) (id l c : ℕ) (p : Point) (visit : Visit) → visit.kept ≡ false → instance_at cert id l c ≡ None
-    → IsAt cert id l c p false visit
-first_none cert id l c p visit bare e = record {
-  is = e;
-  keeps = record { instance = λ k. absurd (never k); varying = λ k. absurd (never k) };
-}
-  where
-    never : visit.kept ≡ true → ⊥
-    never k = let both : true ≡ false = sym k ∙ bare in cc
+pub first_none : (visit : Visit) (l c : ℕ) (last : LastInstance) → last.kept ≡ false → instance_at visit.cert.now visit.id l c ≡ None
+    → IsAt visit l c false last
+first_none visit l c last bare e = record { is = e; keeps = nothing_kept last bare visit.point.now }
 
 -- the last one is moved
-pub moved_there : (cert : Cert) (id l c clock level : ℕ) (p : Point) (visit : Visit) → slice_get cert.points id ≡ Some p
-    → place_in cert.schedule p l c ≡ Some (clock, level) → visit.at ≡ instance_of p l c clock level → IsVarying p visit.varying
-    → IsAt cert id l c p true visit
-moved_there cert id l c clock level p visit found e at varying = record {
-  is = of_point cert id l c p found ∙ (placed cert.schedule p l c clock level e ∙ ap (λ i. Some i) (sym at));
+pub moved_there : (visit : Visit) (l c clock level : ℕ) (last : LastInstance) → IsVisit visit
+    → place_in visit.cert.now.schedule visit.point.now l c ≡ Some (clock, level) → last.at ≡ instance_of visit.point.now l c clock level
+    → IsVarying visit.point.now last.varying → IsAt visit l c true last
+moved_there visit l c clock level last v e at varying = record {
+  is = of_point visit l c v ∙ (placed visit.cert.now.schedule visit.point.now l c clock level e ∙ ap (λ i. Some i) (sym at));
   keeps = record {
     instance = λ k. record { line = l; count = c; clock = clock; level = level; is = at };
     varying = λ k. varying;
   };
 }
 
-pub moved_none : (cert : Cert) (id l c : ℕ) (p : Point) (visit : Visit) → slice_get cert.points id ≡ Some p
-    → place_in cert.schedule p l c ≡ None → Keeps p visit → IsAt cert id l c p false visit
-moved_none cert id l c p visit found e keeps = record {
-  is = of_point cert id l c p found ∙ not_placed cert.schedule p l c e;
+pub moved_none : (visit : Visit) (l c : ℕ) (last : LastInstance) → IsVisit visit
+    → place_in visit.cert.now.schedule visit.point.now l c ≡ None → Keeps visit.point.now last → IsAt visit l c false last
+moved_none visit l c last v e keeps = record {
+  is = of_point visit l c v ∙ not_placed visit.cert.now.schedule visit.point.now l c e;
   keeps = keeps;
 }
 
 -- an instance at which a visit stands is within limits
-pub there_limits : (cert : Cert) (id l c : ℕ) (p : Point) (visit : Visit) → WellFormed cert → IsAt cert id l c p true visit
-    → InstanceLimits cert visit.at
-there_limits cert id l c p visit fits at = instance_limits cert id l c visit.at fits at.is
+pub there_limits : (visit : Visit) (l c : ℕ) (last : LastInstance) → WellFormed visit.cert.now → IsAt visit l c true last
+    → InstanceLimits visit.cert.now last.at
+there_limits visit l c last fits at = instance_limits visit.cert.now visit.id l c last.at fits at.is
 
--- What a visit has of its point
-
-pub keeps_all : (image : FinMap nat_cmp ℕ) (cert : Cert) (id : ℕ) (p : Point) (visit : Visit) → IsVisit image cert id visit
-    → slice_get cert.points id ≡ Some p → Keeps p visit
-keeps_all image cert id p visit v found =
-    subst (λ (q : Point). Keeps q visit) (same_Some v.point p (sym v.is_point ∙ found)) v.keeps
-
-visit_reads : (image : FinMap nat_cmp ℕ) (cert : Cert) (id : ℕ) (p : Point) (visit : Visit) → IsVisit image cert id visit
-    → slice_get cert.points id ≡ Some p → IsReadAt image p.pc visit.row
-visit_reads image cert id p visit v found =
-    subst (λ (q : Point). IsReadAt image q.pc visit.row) (same_Some v.point p (sym v.is_point ∙ found)) v.reads
-
-pub tells : (image : FinMap nat_cmp ℕ) (cert : Cert) (id l c : ℕ) (p : Point) (visit : Visit) (why : Option Fail)
-    → IsVisit image cert id visit → slice_get cert.points id ≡ Some p
-    → why ≡ local_fail image cert p.next.items p.split visit.row (instance_at cert id l c) → IsLocal image cert id l c why
-tells image cert id l c p visit why v found e =
-    is_local image cert id l c p visit.row why found (visit_reads image cert id p visit v found) e
-
-pub goes_on : (image : FinMap nat_cmp ℕ) (cert : Cert) (id : ℕ) (p : Point) (visit after : Visit) → IsVisit image cert id visit
-    → slice_get cert.points id ≡ Some p → after.row ≡ visit.row → Keeps p after → IsVisit image cert id after
-goes_on image cert id p visit after v found same keeps = record {
-  point = p;
-  is_point = found;
-  reads = subst (IsReadAt image p.pc) (sym same) (visit_reads image cert id p visit v found);
-  keeps = keeps;
-}
-
-pub begins : (image : FinMap nat_cmp ℕ) (cert : Cert) (id : ℕ) (p : Point) (visit : Visit) → slice_get cert.points id ≡ Some p
-    → IsReadAt image p.pc visit.row → visit.kept ≡ false → IsVisit image cert id visit
-begins image cert id p visit found reads bare = record {
-  point = p;
-  is_point = found;
-  reads = reads;
-  keeps = record { instance = λ k. absurd (never k); varying = λ k. absurd (never k) };
-}
-  where
-    never : visit.kept ≡ true → ⊥
-    never k = let both : true ≡ false = sym k ∙ bare in cc
+pub tells : (visit : Visit) (l c : ℕ) (why : Option Fail) → IsVisit visit
+    → why ≡ local_fail visit.image.now visit.cert.now visit.point.now.next.items visit.point.now.split visit.row
+    (instance_at visit.cert.now visit.id l c)
+    → IsLocal visit.image.now visit.cert.now visit.id l c why
+tells visit l c why v e =
+    is_local visit.image.now visit.cert.now visit.id l c visit.point.now visit.row why v.point v.reads e

@@ -32,4 +32,4 @@ pub use next::Next;
 pub use results::{after, put_after};
 pub use successors::lies_in_point;
 pub use varying::Varying;
-pub use visit::Visit;
+pub use visit::{LastInstance, Visit};

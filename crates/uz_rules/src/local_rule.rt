@@ -17,7 +17,7 @@ ghost use Rattle.uz_rules.specs.Local.{compares_edges, step_fail, instance_fail,
 use crate::cover::lies_or_is_covered;
 use crate::edge_rule::edges_fit;
 use crate::inclusion::{cells_inside, restored};
-use crate::visit::Visit;
+use crate::visit::{LastInstance, Visit};
 use avr_decode::decode;
 use avr_table::Instr;
 use uz_core::Effect;
@@ -290,7 +290,5 @@ pub fn local(
     ensures answer { IsLocal image.now cert.now id l c (reason result) }
     ensures counted { looked.new ≡ counted looked.old }
 {
-    let mut visit = Visit::empty();
-    visit.begin(image, cert, id);
-    visit.local(image, cert, id, l, c, looked)
+    Visit::new(image, cert, id).local(&mut LastInstance::none(), l, c, looked)
 }

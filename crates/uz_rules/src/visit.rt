@@ -2,6 +2,7 @@
 //! the one before it.
 
 ghost use Rattle.std.specs.Prelude.{◌≡◌, ◌<◌, true, false, length, slice_get, Some};
+ghost use Rattle.uz_schedule.specs.declared.states.Point.{Point};
 ghost use Rattle.uz_schedule.specs.Instances.{instance_at};
 ghost use Rattle.uz_schedule.specs.WellFormed.{WellFormed};
 ghost use Rattle.uz_rules.specs.Local.{local_fail, IsLocal, reason, counted};
@@ -17,11 +18,24 @@ use uz_hex::Image;
 use uz_schedule::{Cert, Instance, Point};
 use uz_transfer::{Fail, Step};
 
-/// What the local rule keeps of a point while its instances are asked one after another.
-#[derive(Drop)]
-pub struct Visit {
+/// A point of a certificate, of which the local rule is asked.
+#[derive(Clone, Copy)]
+pub struct Visit<'a> {
+    /// The program.
+    pub image: &'a Image,
+    /// The certificate.
+    pub cert: &'a Cert,
+    /// The point's number.
+    pub id: u32,
+    /// The point.
+    pub point: &'a Point,
     /// The instruction at the point's pc, where there is one.
     pub row: Option<Instr>,
+}
+
+/// The last instance that a visit came to, of which the next one is made, and room for its step.
+#[derive(Drop)]
+pub struct LastInstance {
     /// Whether the next instance may be made of the last one.
     pub kept: bool,
     /// The last instance.
@@ -32,103 +46,13 @@ pub struct Visit {
     pub step: Step,
 }
 
-/// Whether a point's box has more than one instance.
-fn has_more(point: &Point) -> bool {
-    point.l0 < point.l1 || point.c0 < point.c1
-}
-
-/// The instance at a line and a count is made, where there is one. It is kept where others may follow.
-#[tactic(auto, using(crate::proofs::VisitLaws::first_there, crate::proofs::VisitLaws::first_none))]
-fn make_first(visit: &mut Visit, cert: &Cert, id: u32, point: &Point, l: u16, c: u8) -> bool
-    requires fits { WellFormed cert.now }
-    requires point { slice_get cert.now.points id ≡ Some point.now }
-    requires first { visit.old.kept ≡ false }
-    ensures at { IsAt cert.now id l c point.now result visit.new }
-    ensures row { visit.new.row ≡ visit.old.row }
-{
-    match cert.instance(id, l, c) {
-        Some(at) => {
-            visit.at = at;
-            if has_more(point) {
-                visit.varying = varying_of(point);
-                visit.kept = true;
-            }
-            true
-        }
-        None => false,
-    }
-}
-
-/// The last instance becomes that at a line and a count, where there is one.
-#[tactic(auto, using(crate::proofs::VisitLaws::moved_there, crate::proofs::VisitLaws::moved_none))]
-fn move_kept(visit: &mut Visit, cert: &Cert, id: u32, point: &Point, l: u16, c: u8) -> bool
-    requires fits { WellFormed cert.now }
-    requires point { slice_get cert.now.points id ≡ Some point.now }
-    requires keeps { Keeps point.now visit.old }
-    requires kept { visit.old.kept ≡ true }
-    ensures at { IsAt cert.now id l c point.now result visit.new }
-    ensures row { visit.new.row ≡ visit.old.row }
-{
-    match place_of(&cert.schedule, point, l, c) {
-        Some((clock, level)) => {
-            move_to(&mut visit.at, point, &visit.varying, l, c, clock, level);
-            true
-        }
-        None => false,
-    }
-}
-
-/// The visit comes to a line and a count. False where the point has no instance there.
-fn come_to(visit: &mut Visit, cert: &Cert, id: u32, point: &Point, l: u16, c: u8) -> bool
-    requires fits { WellFormed cert.now }
-    requires point { slice_get cert.now.points id ≡ Some point.now }
-    requires keeps { Keeps point.now visit.old }
-    ensures at { IsAt cert.now id l c point.now result visit.new }
-    ensures row { visit.new.row ≡ visit.old.row }
-{
-    if visit.kept {
-        move_kept(visit, cert, id, point, l, c)
-    } else {
-        make_first(visit, cert, id, point, l, c)
-    }
-}
-
-/// Why a line and a count of a point are refused, under the instruction that is read.
-fn visit_fail(
-    visit: &mut Visit,
-    image: &Image,
-    cert: &Cert,
-    id: u32,
-    point: &Point,
-    l: u16,
-    c: u8,
-) -> Option<Fail>
-    requires fits { WellFormed cert.now }
-    requires point { slice_get cert.now.points id ≡ Some point.now }
-    requires keeps { Keeps point.now visit.old }
-    ensures why { result ≡ local_fail image.now cert.now point.now.next.items point.now.split visit.old.row (instance_at cert.now id l c) }
-    ensures keeps { Keeps point.now visit.new }
-    ensures row { visit.new.row ≡ visit.old.row }
-{
-    let Some(i) = visit.row else {
-        return Some(Fail::Opcode);
-    };
-    let e = effect(&i);
-    if is_stop(e) {
-        return Some(Fail::Opcode);
-    }
-    if come_to(visit, cert, id, point, l, c) {
-        instance_fail(image, cert, point, &i, e, &visit.at, &mut visit.step)
-    } else {
-        Some(Fail::Box)
-    }
-}
-
-impl Visit {
-    /// A visit of no point: room, to begin with, for those of one point after another.
-    pub fn empty() -> Visit {
-        Visit {
-            row: None,
+impl LastInstance {
+    /// No instance: room, to begin with, for those of one point after another.
+    #[tactic(auto, using(crate::proofs::VisitLaws::nothing_kept))]
+    pub fn none() -> LastInstance
+        ensures { (p : Point) → Keeps p result }
+    {
+        LastInstance {
             kept: false,
             at: Instance::default(),
             varying: Varying::none(),
@@ -136,40 +60,142 @@ impl Visit {
         }
     }
 
-    /// The visit of a point's instances begins, in place of that of another's, of which nothing counts any more. The point's instruction
-    /// is read. A caller that asks of many points keeps one `Visit`, so that little is written for a point of one instance. Takes no
-    /// memory.
-    #[tactic(auto, using(crate::proofs::VisitLaws::begins))]
-    pub fn begin(&mut self, image: &Image, cert: &Cert, id: u32)
-        requires { id < length cert.now.points }
-        ensures { IsVisit image.now cert.now id self.new }
+    /// The instance of a point doesn't count any more: another point's come next. A caller that asks of many points keeps one
+    /// `LastInstance`, so that little is written for a point of one instance.
+    #[tactic(auto, using(crate::proofs::VisitLaws::nothing_kept))]
+    pub fn forget(&mut self)
+        ensures { (p : Point) → Keeps p self.new }
     {
-        let point = point_of(cert, id);
-        self.row = read_at(image, point.pc);
         self.kept = false;
     }
+}
 
-    /// The local rule of the visited point at line `l` and count `c`, as `local` answers it. Adds one to `looked`, which stays at the
-    /// greatest u64. Takes no memory.
-    #[tactic(auto, using(crate::proofs::VisitLaws::keeps_all, crate::proofs::VisitLaws::tells, crate::proofs::VisitLaws::goes_on))]
+/// Whether a point's box has more than one instance.
+fn has_more(point: &Point) -> bool {
+    point.l0 < point.l1 || point.c0 < point.c1
+}
+
+impl<'a> Visit<'a> {
+    /// The visit of point `id`. The point's instruction is read. Takes no memory.
+    pub fn new(image: &'a Image, cert: &'a Cert, id: u32) -> Visit<'a>
+        requires { id < length cert.now.points }
+        ensures image { result.image ≡ image.entry }
+        ensures cert { result.cert ≡ cert.entry }
+        ensures id { result.id ≡ id }
+        ensures visit { IsVisit result }
+    {
+        let point = point_of(cert, id);
+        Visit {
+            image,
+            cert,
+            id,
+            point,
+            row: read_at(image, point.pc),
+        }
+    }
+
+    /// The instance at a line and a count is made, where there is one. It is kept where others may follow.
+    #[tactic(auto, using(crate::proofs::VisitLaws::first_there, crate::proofs::VisitLaws::first_none))]
+    fn make_first(&self, last: &mut LastInstance, l: u16, c: u8) -> bool
+        requires fits { WellFormed self.now.cert.now }
+        requires visit { IsVisit self.now }
+        requires first { last.old.kept ≡ false }
+        ensures { IsAt self.now l c result last.new }
+    {
+        match self.cert.instance(self.id, l, c) {
+            Some(at) => {
+                last.at = at;
+                if has_more(self.point) {
+                    last.varying = varying_of(self.point);
+                    last.kept = true;
+                }
+                true
+            }
+            None => false,
+        }
+    }
+
+    /// The last instance becomes that at a line and a count, where there is one.
+    #[tactic(auto, using(crate::proofs::VisitLaws::moved_there, crate::proofs::VisitLaws::moved_none))]
+    fn move_kept(&self, last: &mut LastInstance, l: u16, c: u8) -> bool
+        requires fits { WellFormed self.now.cert.now }
+        requires visit { IsVisit self.now }
+        requires keeps { Keeps self.now.point.now last.old }
+        requires kept { last.old.kept ≡ true }
+        ensures { IsAt self.now l c result last.new }
+    {
+        match place_of(&self.cert.schedule, self.point, l, c) {
+            Some((clock, level)) => {
+                move_to(&mut last.at, self.point, &last.varying, l, c, clock, level);
+                true
+            }
+            None => false,
+        }
+    }
+
+    /// The visit comes to a line and a count. False where the point has no instance there.
+    fn come_to(&self, last: &mut LastInstance, l: u16, c: u8) -> bool
+        requires fits { WellFormed self.now.cert.now }
+        requires visit { IsVisit self.now }
+        requires keeps { Keeps self.now.point.now last.old }
+        ensures { IsAt self.now l c result last.new }
+    {
+        if last.kept {
+            self.move_kept(last, l, c)
+        } else {
+            self.make_first(last, l, c)
+        }
+    }
+
+    /// Why a line and a count of the point are refused.
+    fn fail_at(&self, last: &mut LastInstance, l: u16, c: u8) -> Option<Fail>
+        requires fits { WellFormed self.now.cert.now }
+        requires visit { IsVisit self.now }
+        requires keeps { Keeps self.now.point.now last.old }
+        ensures why { result ≡ local_fail self.now.image.now self.now.cert.now self.now.point.now.next.items self.now.point.now.split
+            self.now.row (instance_at self.now.cert.now self.now.id l c) }
+        ensures keeps { Keeps self.now.point.now last.new }
+    {
+        let Some(i) = self.row else {
+            return Some(Fail::Opcode);
+        };
+        let e = effect(&i);
+        if is_stop(e) {
+            return Some(Fail::Opcode);
+        }
+        if self.come_to(last, l, c) {
+            instance_fail(
+                self.image,
+                self.cert,
+                self.point,
+                &i,
+                e,
+                &last.at,
+                &mut last.step,
+            )
+        } else {
+            Some(Fail::Box)
+        }
+    }
+
+    /// The local rule of the point at line `l` and count `c`, as `local` answers it. `last` is the instance of this visit that was asked
+    /// before, or none. Adds one to `looked`, which stays at the greatest u64. Takes no memory.
+    #[tactic(auto, using(crate::proofs::VisitLaws::tells))]
     pub fn local(
-        &mut self,
-        image: &Image,
-        cert: &Cert,
-        id: u32,
+        &self,
+        last: &mut LastInstance,
         l: u16,
         c: u8,
         looked: &mut u64,
     ) -> Result<(), Fail>
-        requires fits { WellFormed cert.now }
-        requires point { id < length cert.now.points }
-        requires visit { IsVisit image.now cert.now id self.old }
-        ensures answer { IsLocal image.now cert.now id l c (reason result) }
+        requires fits { WellFormed self.now.cert.now }
+        requires visit { IsVisit self.now }
+        requires keeps { Keeps self.now.point.now last.old }
+        ensures answer { IsLocal self.now.image.now self.now.cert.now self.now.id l c (reason result) }
         ensures counted { looked.new ≡ counted looked.old }
-        ensures visit { IsVisit image.now cert.now id self.new }
+        ensures keeps { Keeps self.now.point.now last.new }
     {
         count(looked);
-        let point = point_of(cert, id);
-        answer(visit_fail(self, image, cert, id, point, l, c))
+        answer(self.fail_at(last, l, c))
     }
 }
